@@ -1,5 +1,6 @@
 -- What becomes of a lock that is taken strictly.
-use Rattle.std.proofs.Common.{◌≡◌, ℕ, true, false, Option, List, [], ◌∷◌, Result, Ok, Err, refl, ap, subst}
+use Rattle.std.proofs.Common.{◌≡◌, ℕ, Bool, true, false, Option, None, List, [], ◌∷◌, ◌++◌, Result, Ok, Err, ◌∙◌, refl, sym, ap, subst}
+use Rattle.std.specs.declared.alloc.AllocError.{AllocError}
 use Rattle.std.specs.Prelude.{◌≢◌}
 use Rattle.std.specs.Result.{result_map_both}
 use Rattle.pylock_audit.specs.Finding.{LockFindingValue}
@@ -18,7 +19,6 @@ use Rattle.pylock_run.proofs.ReportLemmas.{stops_at_once}
 use Rattle.pylock_run.proofs.WriteLemmas.{prefix_none}
 use Rattle.pylock_readers.specs.Environment.{EnvironmentRead}
 use Rattle.pylock_run.specs.Report.{Report, refuse_as, state_in, state_on}
-use Rattle.pylock_run.specs.Report.Print.{Prints}
 use Rattle.pylock_run.specs.Report.Run.{IsRunShown}
 use Rattle.pylock_run.specs.Stream.{SinkValue, SourceValue}
 use Rattle.pylock_run.specs.declared.report.fault.RunFault.{RunFault}
@@ -26,8 +26,10 @@ use Rattle.pylock_run.specs.declared.report.fault.RunFault.TheVariants as fault
 use Rattle.pylock_run.specs.declared.report.opening.OpenError.{OpenError}
 use Rattle.pylock_run.specs.declared.report.opening.OpenError.TheVariants as refusal
 use Rattle.pytext.specs.Results.{◌>>=◌}
-use Rattle.pylock_program.specs.Program.{IsRunUnless}
-use Rattle.pylock_program.specs.Show.{found_report, report_of_choices, report_told, report_unless, request_report, run_shown, unopened_told, view_shown}
+use Rattle.pylock_program.specs.Inner.Telling.{PushesTelling}
+use Rattle.pylock_program.specs.Program.{IsRunOn}
+use Rattle.pylock_program.specs.Refusal.{PrintsTelling}
+use Rattle.pylock_program.specs.Show.{report_of_choices, report_told, report_unless, request_report, run_shown, unopened_report, unopened_told, view_shown}
 use Rattle.pylock_program.specs.Choices.{after_choices}
 use Rattle.pylock_program.specs.Strict.{found_by, open_unless, opened_by, strict_state}
 use Rattle.pylock_program.specs.declared.strict.Unopened.{Unopened}
@@ -69,44 +71,45 @@ reported request told lock environment = by (found_by request.strict lock) (stat
     by [] (Err refused) = refl
     by (one ∷ others) opened = refl
 
+-- what is pushed of why there is no session is the report on the request
+pub reported_unopened : (request : Request) (lock : List ℕ) (environment : EnvironmentRead) (unopened : Unopened) (old new : List ℕ)
+    (result : Result (ℕ × Option DiagnosticValue) AllocError)
+    → PushesTelling old new (λ told. unopened_report request.form told unopened) result
+    → opened_by request.strict lock environment ≡ Err unopened
+    → PushesTelling old new (λ told. request_report request told lock environment) result
+reported_unopened request lock environment unopened old new (Ok told) pushed is =
+    let report : unopened_report request.form told.1 unopened ≡ request_report request told.1 lock environment =
+    sym (reported request told.1 lock environment
+    ∙ ap (report_opened request.form told.1 (view_shown request.view request.form) request.choices.items) is) in
+    (pushed.0 ∙ ap (λ (r : Report). old ++ r.text) report, pushed.1 ∙ ap (λ (r : Report). r.status) report)
+reported_unopened request lock environment unopened old new (Err refused) pushed is = tt
+
 -- ---- runs
 
-module _ (form : Form) (source source' : SourceValue) (sink sink' : SinkValue) (result : Result ℕ RunFault) where
-  abbrev Run : Result State OpenError → Type 0
-  Run begins = IsRunShown (run_shown form) begins source source' sink sink' result
+module _ (form : Form) (strict : Bool) (lock : List ℕ) (read given : EnvironmentRead) (same : read ≡ given)
+    (source source' : SourceValue) (sink sink' : SinkValue) (result : Result ℕ RunFault) where
+  abbrev RunOn : Result State Unopened → Type 0
+  RunOn begins = IsRunOn form begins source source' sink sink' result
 
-  abbrev RunUnless : List LockFindingValue → Result State OpenError → Type 0
-  RunUnless found begins = IsRunUnless form found begins source source' sink sink' result
+  again : (begins : Result State Unopened) → opened_by strict lock read ≡ begins → RunOn begins → RunOn (opened_by strict lock given)
+  again begins is run = subst RunOn (sym is ∙ ap (opened_by strict lock) same) run
 
-  pub session_runs : (found : List LockFindingValue) (opened : Result State OpenError) (state : State)
-      → open_unless found opened ≡ Ok state → (opened ≡ Ok state → Run opened) → RunUnless found opened
-  session_runs [] (Ok s) state is run =
-      let same : s ≡ state = cc in
-      run (ap Ok same)
-  session_runs [] (Err e) state is run = absurd cc
-  session_runs (one ∷ others) opened state is run = absurd cc
+  pub session_runs : (state : State) → opened_by strict lock read ≡ Ok state
+      → IsRunShown (run_shown form) (Ok state) source source' sink sink' result → RunOn (opened_by strict lock given)
+  session_runs state is run = again (Ok state) is run
 
-  pub refusal_runs : (found : List LockFindingValue) (opened : Result State OpenError) (refused : OpenError)
-      → open_unless found opened ≡ Err (Refused refused) → (opened ≡ Err refused → Run opened) → RunUnless found opened
-  refusal_runs [] (Ok s) refused is run = absurd cc
-  refusal_runs [] (Err e) refused is run = run cc
-  refusal_runs (one ∷ others) opened refused is run = absurd cc
-
-  pub findings_run : (found : List LockFindingValue) (opened : Result State OpenError) (told : List LockFindingValue)
-      → open_unless found opened ≡ Err (Findings told) → Prints (found_report form told) sink sink' result → source' ≡ source
-      → RunUnless found opened
-  findings_run [] (Ok s) told is prints unasked = absurd cc
-  findings_run [] (Err e) told is prints unasked = absurd cc
-  findings_run (one ∷ others) opened told is prints unasked =
-      let same : told ≡ one ∷ others = cc in
-      (subst (λ list. Prints (found_report form list) sink sink' result) same prints, unasked)
+  pub unopened_runs : (unopened : Unopened) → opened_by strict lock read ≡ Err unopened
+      → PrintsTelling (λ told. unopened_report form told unopened) sink sink' result → source' ≡ source → RunOn (opened_by strict lock given)
+  unopened_runs unopened is prints unasked = again (Err unopened) is (prints, unasked)
 
 -- memory was refused before anything was written
-pub memory_runs : (form : Form) (found : List LockFindingValue) (opened : Result State OpenError) (source : SourceValue) (sink : SinkValue)
-    → IsRunUnless form found opened source source sink sink (Err fault.Memory)
-memory_runs form [] opened source sink = stops_at_once (run_shown form) opened source sink
-memory_runs form (one ∷ others) opened source sink =
-    (record { text = tt; status = tt; counted = tt; prefix = prefix_none sink _; fault = refl }, refl)
+pub memory_runs : (form : Form) (opened : Result State Unopened) (source : SourceValue) (sink : SinkValue)
+    → IsRunOn form opened source source sink sink (Err fault.Memory)
+memory_runs form (Ok state) source sink = stops_at_once (run_shown form) (Ok state) source sink
+memory_runs form (Err unopened) source sink =
+    ((None, record { text = tt; status = tt; counted = tt; prefix = prefix_none sink _; fault = refl }), refl)
+
+pub ruleset runs = (session_runs, unopened_runs, memory_runs)
 
 -- ---- a strict plan is the plan
 

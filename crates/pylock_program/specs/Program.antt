@@ -1,14 +1,12 @@
 -- What the program does with its task, and how it ends.
-use Rattle.std.specs.Prelude.{◌≡◌, ◌≢◌, ℕ, Bool, true, false, List, [], ◌∷◌, codes}
+use Rattle.std.specs.Prelude.{◌≡◌, ◌≢◌, ℕ, Bool, true, false, List, codes}
 use Rattle.std.specs.Prelude.{Option, Some, None}
 use Rattle.std.specs.Prelude.{Result, Ok, Err}
 use Rattle.std.specs.Result.{result_map_both}
-use Rattle.pylock_audit.specs.Finding.{LockFindingValue}
 use Rattle.pylock_command.specs.declared.form.Form.{Form}
-use Rattle.pylock_command.specs.declared.form.Form.TheVariants.{Lines}
 use Rattle.pylock_command.specs.declared.machine.Machine.{Machine}
-use Rattle.pylock_command.specs.declared.machine.Machine.TheVariants as machine
 use Rattle.pylock_command.specs.declared.task.Installation.{Installation}
+use Rattle.pylock_command.specs.declared.task.Selection.{Selection}
 use Rattle.pylock_command.specs.declared.task.Task.{Task}
 use Rattle.pylock_command.specs.declared.task.Task.TheVariants as task
 use Rattle.pylock_program.specs.Diff.{locks_report, plans_report}
@@ -17,14 +15,13 @@ use Rattle.pylock_program.specs.Paths.{IsMachineRead, IsReadAs}
 use Rattle.pylock_program.specs.Refusal.{PrintsTelling}
 use Rattle.pylock_program.specs.Reply.{answer_report, audit_answer, files_answer, marker_answer}
 use Rattle.pylock_program.specs.Reply.{reply}
-use Rattle.pylock_program.specs.Show.{found_report, request_report, run_shown}
-use Rattle.pylock_program.specs.Strict.{found_by}
+use Rattle.pylock_program.specs.Show.{request_report, run_shown, unopened_report}
+use Rattle.pylock_program.specs.Strict.{opened_by}
 use Rattle.pylock_core.specs.Session.State.{State}
 use Rattle.pylock_messages.specs.Diagnostic.{DiagnosticValue}
-use Rattle.pylock_readers.specs.Environment.{EnvironmentRead, env_of}
-use Rattle.pylock_readers.specs.Target.{target_env_of}
+use Rattle.pylock_readers.specs.Environment.{EnvironmentRead}
 use Rattle.pylock_run.specs.Files.{Reads}
-use Rattle.pylock_run.specs.Report.{Report, state_in}
+use Rattle.pylock_run.specs.Report.{Report}
 use Rattle.pylock_run.specs.Report.Print.{Prints}
 use Rattle.pylock_run.specs.Report.Run.{IsRunShown}
 use Rattle.pylock_run.specs.Stream.{SourceValue, SinkValue}
@@ -32,10 +29,9 @@ use Rattle.pylock_program.specs.declared.program.Failure.{Failure}
 use Rattle.pylock_program.specs.declared.program.Failure.TheVariants.{NotText, File, Read, Write}
 use Rattle.pylock_program.specs.declared.program.Failure.TheVariants.{Input, NamedFile, Memory}
 use Rattle.pylock_program.specs.declared.reply.queries.Query.TheVariants as query
+use Rattle.pylock_program.specs.declared.strict.Unopened.{Unopened}
 use Rattle.pylock_run.specs.declared.report.fault.RunFault.{RunFault}
 use Rattle.pylock_run.specs.declared.report.fault.RunFault.TheVariants as run
-use Rattle.pylock_run.specs.declared.report.opening.OpenError.{OpenError}
-use Rattle.pylock_run.specs.declared.stream.whole.FileFault.{FileFault}
 
 -- how the program ends where a run, a query or the reading of a file stops
 abbrev pub run_failure : RunFault → Failure
@@ -90,19 +86,20 @@ abbrev pub RepliesTelling : (Option DiagnosticValue → Report) → Outcome
 RepliesTelling report source source' sink sink' result =
     Tells (PrintsTelling report sink sink') result × (source' ≡ source)
 
--- a run from its beginning, in the form, unless there are findings: then these are printed, and
--- standard input isn't read
-abbrev pub IsRunUnless : Form → List LockFindingValue → Result State OpenError → SourceValue
-    → SourceValue → SinkValue → SinkValue → Result ℕ RunFault → Type 0
-IsRunUnless form [] begins source source' sink sink' result =
-    IsRunShown (run_shown form) begins source source' sink sink' result
-IsRunUnless form (one ∷ others) begins source source' sink sink' result =
-    Prints (found_report form (one ∷ others)) sink sink' result × (source' ≡ source)
+-- A run from its beginning, in the form; or why there is no session is printed, and standard input
+-- isn't read.
+abbrev pub IsRunOn : Form → Result State Unopened → SourceValue → SourceValue → SinkValue
+    → SinkValue → Result ℕ RunFault → Type 0
+IsRunOn form (Ok state) source source' sink sink' result =
+    IsRunShown (run_shown form) (Ok state) source source' sink sink' result
+IsRunOn form (Err unopened) source source' sink sink' result =
+    PrintsTelling (λ told. unopened_report form told unopened) sink sink' result
+    × (source' ≡ source)
 
--- a run in the form, unless there are findings
-abbrev pub Runs : Form → List LockFindingValue → List ℕ → EnvironmentRead → Outcome
-Runs form found lock read source source' sink sink' result =
-    Tells (IsRunUnless form found (state_in lock read) source source' sink sink') result
+-- the run on a lock that is taken strictly, or isn't
+abbrev pub Runs : Selection → List ℕ → EnvironmentRead → Outcome
+Runs asked lock read source source' sink sink' result =
+    Tells (IsRunOn asked.form (opened_by asked.strict lock read) source source' sink sink') result
 
 -- ---- what is read first
 
@@ -150,7 +147,7 @@ abbrev pub Performs : Reads → Task → Outcome
 Performs gives task.Bare = Greets
 Performs gives (task.Select asked) =
     Opens false gives asked.lock.now (λ lock. OpensMachine false gives asked.machine
-    (Runs asked.form (found_by asked.strict lock) lock))
+    (Runs asked lock))
 Performs gives (task.Show request) =
     Opens true gives request.lock.now (λ lock. OpensMachine true gives request.machine
     (λ read. RepliesTelling (λ told. request_report request told lock read)))

@@ -75,6 +75,9 @@ abbrev pub unopened_told : Form → Option DiagnosticValue → Unopened → List
 unopened_told form told (Findings found) = findings_shown form found
 unopened_told form told (Refused refusal) = refusal_told form told refusal
 
+abbrev pub unopened_report : Form → Option DiagnosticValue → Unopened → Report
+unopened_report form told unopened = record { text = unopened_told form told unopened; status = 2 }
+
 -- the same where nothing is told
 abbrev pub unopened_shown : Form → Unopened → List ℕ
 unopened_shown form unopened = unopened_told form None unopened

@@ -10,7 +10,7 @@ ghost use Rattle.pylock_diff.specs.Changes.{answer_changes, lock_changes};
 ghost use Rattle.pylock_diff.specs.Document.{changes_rows};
 ghost use Rattle.pylock_program.specs.Inner.Telling.{PushesTelling};
 ghost use Rattle.pylock_program.specs.Inner.Machine.{machine_read};
-ghost use Rattle.pylock_program.specs.Refusal.{PrintsTelling, option_shown, refused_file_report};
+ghost use Rattle.pylock_program.specs.Refusal.{PrintsTelling, option_shown};
 ghost use Rattle.pylock_program.specs.Text.Json.{json_text};
 ghost use Rattle.pylock_run.specs.Report.Print.{Prints};
 
@@ -18,8 +18,9 @@ use crate::choices::make_choices;
 use crate::file::{FileBytes, MachineInput};
 use crate::notes::options::option_diagnostic;
 use crate::notes::refusal::told_in;
+use crate::notes::tell_beside;
 use crate::program::REFUSED;
-use crate::reply::push_refused_file;
+use crate::reply::write_refused_file;
 use crate::show::push_refused_option;
 use crate::text::diff::write_changes;
 use crate::text::json::push_side_json;
@@ -45,11 +46,12 @@ pub(crate) struct Sides<'a> {
 /// where that points. It takes memory for both locks with the codes of all their keys, for tables
 /// of their sources, and for the changes, which share names and what a file is called; and where
 /// they are a document for that. A line is written as it is made.
-pub(crate) fn write_lock_diff<W: Sink>(
+pub(crate) fn write_lock_diff<W: Sink, N: Sink>(
     alloc: Global,
     form: Form,
     sides: Sides<'_>,
     writer: &mut W,
+    notes: &mut N,
 ) -> Result<u8, RunFault>
     ensures { PrintsTelling (λ told. locks_report form told sides.entry.old.now.bytes.items
         sides.entry.new.now.bytes.items) (W.value writer.old) (W.value writer.new) result }
@@ -57,12 +59,12 @@ pub(crate) fn write_lock_diff<W: Sink>(
     let old = match read_compared(alloc, &sides.old.bytes) {
         Ok(compared) => compared,
         Err(LockError::Memory) => return Err(RunFault::Memory),
-        Err(error) => return write_side(alloc, form, "old", sides.old, error, writer),
+        Err(error) => return write_side(alloc, form, ("old", sides.old), error, writer, notes),
     };
     let new = match read_compared(alloc, &sides.new.bytes) {
         Ok(compared) => compared,
         Err(LockError::Memory) => return Err(RunFault::Memory),
-        Err(error) => return write_side(alloc, form, "new", sides.new, error, writer),
+        Err(error) => return write_side(alloc, form, ("new", sides.new), error, writer, notes),
     };
     write_locks(alloc, form, &old, &new, writer)
 }
@@ -82,21 +84,23 @@ fn write_locks<W: Sink>(
     write_shown(alloc, form, &changes, writer)
 }
 
-/// Writes a refused lock, of which `side` tells which it is.
-fn write_side<W: Sink>(
+/// Writes a refused lock, behind the word for which one it is, and to `notes` a line for a person.
+fn write_side<W: Sink, N: Sink>(
     alloc: Global,
     form: Form,
-    side: &str,
-    file: &FileBytes<'_>,
+    side: (&str, &FileBytes<'_>),
     error: LockError,
     writer: &mut W,
+    notes: &mut N,
 ) -> Result<u8, RunFault>
-    ensures { PrintsTelling (λ told. side_report form told side.now error)
+    ensures { PrintsTelling (λ told. side_report form told side.entry.0.now error)
         (W.value writer.old) (W.value writer.new) result }
 {
     let mut out = Vec::new(alloc);
-    let (status, _told) = push_side(alloc, &mut out, form, side, file, error)?;
-    print(&out, status, writer)
+    let (status, told) = push_side(alloc, &mut out, form, side.0, side.1, error)?;
+    let end = print(&out, status, writer);
+    tell_beside(alloc, notes, &end, told.as_ref());
+    end
 }
 
 /// Pushes a refused lock, of which `side` tells which it is, and answers the status and what is
@@ -162,13 +166,14 @@ fn write_document<W: Sink>(
 /// Writes what changed from what one lock installs in an environment to what the other does, each
 /// after the options, and answers the status: that of [`write_lock_diff`], 1 where an option is
 /// refused, and 2 where the environment is.
-pub(crate) fn write_plan_diff<W: Sink>(
+pub(crate) fn write_plan_diff<W: Sink, N: Sink>(
     alloc: Global,
     form: Form,
     choices: &[Choice<'_>],
     sides: Sides<'_>,
     machine: &MachineInput<'_>,
     writer: &mut W,
+    notes: &mut N,
 ) -> Result<u8, RunFault>
     ensures { PrintsTelling (λ told. plans_report form told choices.now
         sides.entry.old.now.bytes.items sides.entry.new.now.bytes.items (machine_read machine.now))
@@ -177,12 +182,12 @@ pub(crate) fn write_plan_diff<W: Sink>(
     let old = match Lock::read(alloc, &sides.old.bytes) {
         Ok(lock) => lock,
         Err(LockError::Memory) => return Err(RunFault::Memory),
-        Err(error) => return write_side(alloc, form, "old", sides.old, error, writer),
+        Err(error) => return write_side(alloc, form, ("old", sides.old), error, writer, notes),
     };
     let new = match Lock::read(alloc, &sides.new.bytes) {
         Ok(lock) => lock,
         Err(LockError::Memory) => return Err(RunFault::Memory),
-        Err(error) => return write_side(alloc, form, "new", sides.new, error, writer),
+        Err(error) => return write_side(alloc, form, ("new", sides.new), error, writer, notes),
     };
     write_installed(
         alloc,
@@ -191,17 +196,19 @@ pub(crate) fn write_plan_diff<W: Sink>(
         (old, new),
         (sides.old.path, machine),
         writer,
+        notes,
     )
 }
 
 /// The same of two locks that were read, the old one from the file of this path.
-fn write_installed<W: Sink>(
+fn write_installed<W: Sink, N: Sink>(
     alloc: Global,
     form: Form,
     choices: &[Choice<'_>],
     locks: (Lock, Lock),
     named: (&str, &MachineInput<'_>),
     writer: &mut W,
+    notes: &mut N,
 ) -> Result<u8, RunFault>
     ensures { PrintsTelling (λ told. installed form told choices.now
         (machine_read named.entry.1.now) locks.0 locks.1)
@@ -213,29 +220,15 @@ fn write_installed<W: Sink>(
                 Ok(both) => both,
                 Err(AllocError) => return Err(RunFault::Memory),
             };
-            write_after_choices(alloc, form, choices, (&mut old, &mut new), named.0, writer)
+            let sessions = (&mut old, &mut new);
+            write_after_choices(alloc, form, choices, sessions, named.0, writer, notes)
         }
         Err(EnvError::Memory) => Err(RunFault::Memory),
         Err(error) => {
-            write_machine(alloc, form, named.1, &OpenError::Environment(error), writer)
+            let refusal = OpenError::Environment(error);
+            write_refused_file(alloc, form, &refusal, named.1.named(), writer, notes)
         }
     }
-}
-
-/// Writes a refused environment.
-fn write_machine<W: Sink>(
-    alloc: Global,
-    form: Form,
-    machine: &MachineInput<'_>,
-    refusal: &OpenError,
-    writer: &mut W,
-) -> Result<u8, RunFault>
-    ensures { PrintsTelling (λ told. refused_file_report form told refusal.now)
-        (W.value writer.old) (W.value writer.new) result }
-{
-    let mut out = Vec::new(alloc);
-    let (status, _told) = push_refused_file(alloc, &mut out, form, refusal, machine.named())?;
-    print(&out, status, writer)
 }
 
 /// Starts a session on each of two locks, in one environment.
@@ -257,13 +250,14 @@ fn start_both(
 
 /// Writes what changed from one session to the other after the options, or the first option that is
 /// refused.
-fn write_after_choices<W: Sink>(
+fn write_after_choices<W: Sink, N: Sink>(
     alloc: Global,
     form: Form,
     choices: &[Choice<'_>],
     sessions: (&mut Session, &mut Session),
     path: &str,
     writer: &mut W,
+    notes: &mut N,
 ) -> Result<u8, RunFault>
     ensures { PrintsTelling (λ told. after_both form told
         (after_choices choices.now sessions.entry.0.now.state)
@@ -273,12 +267,12 @@ fn write_after_choices<W: Sink>(
     let (old, new) = sessions;
     match make_choices(alloc, old, choices) {
         Ok(None) => {}
-        Ok(Some(choice)) => return write_option(alloc, form, choice, path, writer),
+        Ok(Some(choice)) => return write_option(alloc, form, choice, path, writer, notes),
         Err(AllocError) => return Err(RunFault::Memory),
     }
     match make_choices(alloc, new, choices) {
         Ok(None) => {}
-        Ok(Some(choice)) => return write_option(alloc, form, choice, path, writer),
+        Ok(Some(choice)) => return write_option(alloc, form, choice, path, writer, notes),
         Err(AllocError) => return Err(RunFault::Memory),
     }
     write_plans(alloc, form, old, new, writer)
@@ -300,21 +294,24 @@ fn write_plans<W: Sink>(
     write_shown(alloc, form, &changes, writer)
 }
 
-/// Writes a refused option.
-fn write_option<W: Sink>(
+/// Writes a refused option, and to `notes` a line for a person.
+fn write_option<W: Sink, N: Sink>(
     alloc: Global,
     form: Form,
     choice: Choice<'_>,
     path: &str,
     writer: &mut W,
+    notes: &mut N,
 ) -> Result<u8, RunFault>
     ensures { PrintsTelling (λ told.
         record { text = option_shown form told choice.entry; status = 1 })
         (W.value writer.old) (W.value writer.new) result }
 {
     let mut out = Vec::new(alloc);
-    let (status, _told) = push_option(alloc, &mut out, form, choice, path)?;
-    print(&out, status, writer)
+    let (status, told) = push_option(alloc, &mut out, form, choice, path)?;
+    let end = print(&out, status, writer);
+    tell_beside(alloc, notes, &end, told.as_ref());
+    end
 }
 
 /// Pushes a refused option, and answers the status and what is told.

@@ -13,16 +13,19 @@ ghost use Rattle.pylock_readers.specs.Input.{input_env_of};
 ghost use Rattle.pylock_run.specs.Report.Print.{Prints, Pushes};
 
 use crate::choices::make_choices;
+use crate::file::{FileBytes, NamedInput};
 use crate::notes::export::{tell_exported, tell_refused_export};
 use crate::notes::fault::tell_fault;
 use crate::notes::options::{tell_notes, tell_refused};
-use crate::notes::tell_bytes;
+use crate::notes::refusal::unopened_diagnostic;
+use crate::notes::{tell_bytes, tell_diagnostic};
 use crate::program::REFUSED;
-use crate::show::{Inputs, push_refused_option};
+use crate::show::{Inputs, named_inputs, push_refused_option};
 use crate::strict::{Unopened, open_by, push_unopened};
 use pylock_command::{Choice, ExportRequest, FileFormat, Form, PlanFormat};
 use pylock_core::{Answer, Entry, Lock, LockError, Session};
 use pylock_exports::{ExportError, Exported, Format, ListFormat, export_files, export_plan};
+use pylock_messages::lock_diagnostic;
 use pylock_run::{OpenError, RunFault, Sink, print, push_answer, push_lock_error};
 use std::alloc::{AllocError, Global};
 use std::mem;
@@ -87,21 +90,29 @@ fn push_plan_export<N: Sink>(
         }
         Err(Unopened::Refused(OpenError::Memory)) => Err(AllocError),
         Err(unopened) => {
-            tell_unopened_line(alloc, notes, &unopened)?;
+            let named = named_inputs(asked.lock, asked.machine, inputs);
+            tell_unopened(alloc, notes, &unopened, named)?;
             Ok(REFUSED)
         }
     }
 }
 
-/// Tells what `plan` prints of a lock or an environment that is refused.
-fn tell_unopened_line<N: Sink>(
+/// Tells what `plan` prints of a lock or an environment that is refused, and where that is wrong.
+fn tell_unopened<N: Sink>(
     alloc: Global,
     notes: &mut N,
     unopened: &Unopened,
+    named: (NamedInput<'_>, NamedInput<'_>),
 ) -> Result<(), AllocError> {
     let mut line = Vec::new(alloc);
     push_unopened(alloc, &mut line, Form::Lines, unopened)?;
     tell_bytes(notes, &line);
+    let (lock, environment) = named;
+    tell_diagnostic(
+        alloc,
+        notes,
+        unopened_diagnostic(alloc, unopened, lock, environment),
+    );
     Ok(())
 }
 
@@ -229,11 +240,12 @@ fn tell_made_export<N: Sink>(
 pub(crate) fn write_files_export<W: Sink, N: Sink>(
     alloc: Global,
     form: FileFormat,
-    lock: &[u8],
+    lock: &FileBytes<'_>,
     writer: &mut W,
     notes: &mut N,
 ) -> Result<u8, RunFault>
-    ensures { Prints (files_export form lock.now) (W.value writer.old) (W.value writer.new) result }
+    ensures { Prints (files_export form lock.now.bytes.items)
+        (W.value writer.old) (W.value writer.new) result }
 {
     let mut out = Vec::new(alloc);
     let status = push_files_export(alloc, &mut out, form, lock, notes)?;
@@ -245,12 +257,12 @@ fn push_files_export<N: Sink>(
     alloc: Global,
     out: &mut Vec<u8>,
     form: FileFormat,
-    lock: &[u8],
+    file: &FileBytes<'_>,
     notes: &mut N,
 ) -> Result<u8, AllocError>
-    ensures { Pushes out.old.items out.new.items (files_export form lock.now) result }
+    ensures { Pushes out.old.items out.new.items (files_export form file.now.bytes.items) result }
 {
-    match Lock::read(alloc, lock) {
+    match Lock::read(alloc, &file.bytes) {
         Ok(lock) => {
             let form = list_format(form);
             let made = export_files(alloc, form, lock.entries());
@@ -265,6 +277,8 @@ fn push_files_export<N: Sink>(
             let mut line = Vec::new(alloc);
             push_lock_error(&mut line, &error)?;
             tell_bytes(notes, &line);
+            let told = lock_diagnostic(alloc, file.path, &file.bytes, &error);
+            tell_diagnostic(alloc, notes, told);
             Ok(REFUSED)
         }
     }

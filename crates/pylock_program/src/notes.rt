@@ -32,6 +32,17 @@ pub(crate) fn tell_bytes<N: Sink>(notes: &mut N, lines: &[u8]) {
     let _ = write_all(notes, lines);
 }
 
+/// Tells the line of what is wrong, where it was found.
+pub(crate) fn tell_diagnostic<N: Sink>(
+    alloc: Global,
+    notes: &mut N,
+    found: Result<Option<Diagnostic>, AllocError>,
+) {
+    if let Ok(Some(found)) = found {
+        tell(alloc, notes, found.message());
+    }
+}
+
 /// Tells what a call told beside its answer, once that is written.
 pub(crate) fn tell_beside<N: Sink>(
     alloc: Global,

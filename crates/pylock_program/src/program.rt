@@ -1,6 +1,6 @@
 //! What the program does with its task, and how it ends.
 
-ghost use Rattle.std.specs.Prelude.{◌≡◌, ◌≢◌, Err, Result, false, true};
+ghost use Rattle.std.specs.Prelude.{◌≡◌, ◌≢◌, Err, Ok, false, true};
 ghost use Rattle.std.specs.Option.{option_copied};
 ghost use Rattle.pylock_program.specs.Diff.{locks_report, plans_report};
 ghost use Rattle.pylock_program.specs.Exports.{files_export, plan_export};
@@ -8,39 +8,33 @@ ghost use Rattle.pylock_program.specs.declared.reply.queries.Query.TheVariants a
 ghost use Rattle.pylock_program.specs.Program.{Compares, failure_message, failure_status, Opens};
 ghost use Rattle.pylock_program.specs.Program.{OpensMachine, Performs, Replies, RepliesTelling};
 ghost use Rattle.pylock_program.specs.Program.{Runs, Tells};
-ghost use Rattle.pylock_program.specs.Program.{greeting, terminal_note, program_end, IsRunUnless};
+ghost use Rattle.pylock_program.specs.Program.{greeting, terminal_note, program_end, IsRunOn};
 ghost use Rattle.pylock_program.specs.Reply.{answer_report, audit_answer, files_answer};
 ghost use Rattle.pylock_program.specs.Reply.{marker_answer, reply};
-ghost use Rattle.pylock_program.specs.Show.{found_report, request_report, run_shown};
-ghost use Rattle.pylock_program.specs.Strict.{found_by};
+ghost use Rattle.pylock_program.specs.Show.{request_report, run_shown};
+ghost use Rattle.pylock_program.specs.Strict.{opened_by};
 ghost use Rattle.pylock_command.specs.declared.form.Form.TheVariants as form;
-ghost use Rattle.pylock_readers.specs.Input.{input_env_of};
-ghost use Rattle.pylock_run.specs.Report.{state_in};
+ghost use Rattle.pylock_program.specs.Inner.Machine.{machine_read};
 ghost use Rattle.pylock_program.specs.Refusal.{PrintsTelling};
 ghost use Rattle.pylock_run.specs.Report.Print.{Prints};
 ghost use Rattle.pylock_run.specs.Report.Run.{IsRunShown};
-ghost use Rattle.pylock_run.specs.declared.report.opening.OpenError.{OpenError as OpenRefusal};
-ghost use Rattle.pylock_run.specs.declared.report.opening.OpenError.TheVariants as open_error;
-ghost use Rattle.pylock_core.specs.Session.State.{State};
-ghost use Rattle.pytext.specs.Agreement.{Gives};
 ghost use Rattle.pylock_program.specs.declared.program.Failure.TheVariants as failure;
 
 use crate::diff::{Sides, write_lock_diff, write_plan_diff};
 use crate::export::{write_files_export, write_plan_export};
 use crate::file::{FileBytes, MachineInput, read_bytes, read_machine};
 use crate::notes::expected::tell_expected;
-use crate::notes::refusal::{tell_refusal, tell_sides, tell_unopened};
+use crate::notes::refusal::tell_target;
 use crate::printing::Documents;
 use crate::reply::queries::Query;
 use crate::reply::{audit_file, query, query_file};
-use crate::show::{Inputs, show_request};
-use crate::strict::{Unopened, open_by, push_found};
-use pylock_audit::Findings;
+use crate::show::{Inputs, show_request, write_unopened};
+use crate::strict::{Unopened, open_by};
 use pylock_command::{
     DiffRequest, ExportRequest, FileFormat, Form, Installation, Machine, Request, Selection,
     TargetWords, Task,
 };
-use pylock_core::{EnvironmentInput, Session};
+use pylock_core::Session;
 use pylock_run::{Files, Lines, OpenError, RunFault, Sink, Source, print, run_opened};
 use std::alloc::Global;
 use std::io::ErrorKind;
@@ -194,80 +188,61 @@ fn run_select<F: Files, R: Source, W: Sink, N: Sink>(
 ) -> Result<u8, Failure>
     ensures { Opens false (F.read_gives files.now) asked.entry.lock.now
         (λ lock. OpensMachine false (F.read_gives files.now) asked.entry.machine
-        (Runs asked.entry.form (found_by asked.entry.strict lock) lock))
+        (Runs asked.entry lock))
         (R.value reader.old) (R.value reader.new) (W.value writer.old) (W.value writer.new) result }
 {
     let lock = read_bytes(alloc, files, reader, asked.lock, false, notes)?;
     let machine = read_machine(alloc, files, reader, asked.machine, false, notes)?;
-    let end = run_by(
-        alloc,
-        asked.form,
-        asked.strict,
-        &lock.bytes,
-        machine.input(),
-        reader,
-        writer,
-    );
-    tell_unopened(alloc, notes, &end, asked.strict, &lock, &machine);
-    program_end(end)
+    program_end(run_by(alloc, asked, &lock, &machine, reader, writer, notes))
 }
 
-/// A run on a lock that is taken strictly, or as it is; or the findings in its place.
-fn run_by<R: Source, W: Sink>(
+/// A run on a lock that is taken strictly, or as it is; or why there is none.
+#[tactic(auto, using(crate::proofs::StrictLemmas::runs))]
+fn run_by<R: Source, W: Sink, N: Sink>(
     alloc: Global,
-    form: Form,
-    strict: bool,
-    lock: &[u8],
-    environment: EnvironmentInput<'_>,
+    asked: Selection<'_>,
+    lock: &FileBytes<'_>,
+    machine: &MachineInput<'_>,
     reader: &mut R,
     writer: &mut W,
+    notes: &mut N,
 ) -> Result<u8, RunFault>
-    ensures { IsRunUnless form (found_by strict lock.now)
-        (state_in lock.now (input_env_of environment.entry))
+    ensures { IsRunOn asked.entry.form
+        (opened_by asked.entry.strict lock.now.bytes.items (machine_read machine.now))
         (R.value reader.old) (R.value reader.new) (W.value writer.old) (W.value writer.new) result }
 {
-    match open_by(alloc, strict, lock, environment) {
-        Ok(session) => run_in_form(alloc, form, Ok(session), reader, writer),
+    match open_by(alloc, asked.strict, &lock.bytes, machine.input()) {
+        Ok(session) => run_in_form(alloc, asked.form, session, reader, writer),
         Err(Unopened::Refused(OpenError::Memory)) => Err(RunFault::Memory),
-        Err(Unopened::Refused(refusal)) => {
-            run_in_form(alloc, form, Err(refusal), reader, writer)
+        Err(unopened) => {
+            let named = (lock.named(), machine.named());
+            write_unopened(alloc, asked.form, &unopened, named, writer, notes)
         }
-        Err(Unopened::Findings(found)) => print_found(alloc, form, &found, writer),
     }
 }
 
-/// A run on what was opened, in the form.
+/// A run on a session, in the form.
 fn run_in_form<R: Source, W: Sink>(
     alloc: Global,
     form: Form,
-    opened: Result<Session, OpenError>,
+    session: Session,
     reader: &mut R,
     writer: &mut W,
 ) -> Result<u8, RunFault>
-    ensures { (begins : Result State OpenRefusal)
-        → Gives open_error.Memory (λ session. session.state) opened begins
-        → IsRunShown (run_shown form) begins (R.value reader.old) (R.value reader.new)
-        (W.value writer.old) (W.value writer.new) result }
+    ensures { IsRunShown (run_shown form) (Ok session.state) (R.value reader.old)
+        (R.value reader.new) (W.value writer.old) (W.value writer.new) result }
 {
     match form {
-        Form::Lines => run_opened(alloc, &Lines, opened, true, reader, writer),
-        Form::Json => run_opened(alloc, &Documents { alloc }, opened, true, reader, writer),
+        Form::Lines => run_opened(alloc, &Lines, Ok(session), true, reader, writer),
+        Form::Json => run_opened(
+            alloc,
+            &Documents { alloc },
+            Ok(session),
+            true,
+            reader,
+            writer,
+        ),
     }
-}
-
-/// Prints findings in place of an answer.
-fn print_found<W: Sink>(
-    alloc: Global,
-    form: Form,
-    found: &Findings,
-    writer: &mut W,
-) -> Result<u8, RunFault>
-    ensures { Prints (found_report form found.now)
-        (W.value writer.old) (W.value writer.new) result }
-{
-    let mut out = Vec::new(alloc);
-    push_found(alloc, &mut out, form, found.as_slice())?;
-    print(&out, REFUSED, writer)
 }
 
 /// Answers `plan` or `explain` on the lock of a file and the environment of a machine.
@@ -315,9 +290,7 @@ fn export_plan<F: Files, R: Source, W: Sink, N: Sink>(
         environment: machine.input(),
         leaves: true,
     };
-    let end = write_plan_export(alloc, asked, inputs, writer, notes);
-    tell_unopened(alloc, notes, &end, asked.strict, &lock, &machine);
-    program_end(end)
+    program_end(write_plan_export(alloc, asked, inputs, writer, notes))
 }
 
 /// Answers `files` in the form of another tool.
@@ -335,9 +308,7 @@ fn export_files<F: Files, R: Source, W: Sink, N: Sink>(
         (R.value reader.old) (R.value reader.new) (W.value writer.old) (W.value writer.new) result }
 {
     let lock = read_bytes(alloc, files, reader, lock, true, notes)?;
-    let end = write_files_export(alloc, form, &lock.bytes, writer, notes);
-    tell_refusal(alloc, notes, &end, Some(&lock), None);
-    program_end(end)
+    program_end(write_files_export(alloc, form, &lock, writer, notes))
 }
 
 /// Answers `diff` on two locks, or on what they install.
@@ -402,9 +373,7 @@ fn compare_texts<W: Sink, N: Sink>(
         sides.entry.1.now.bytes.items) (W.value writer.old) (W.value writer.new)) result }
 {
     let (old, new) = sides;
-    let end = write_lock_diff(alloc, form, Sides { old, new }, writer);
-    tell_sides(alloc, notes, &end, old, new, None);
-    program_end(end)
+    program_end(write_lock_diff(alloc, form, Sides { old, new }, writer, notes))
 }
 
 /// Answers `diff` on what two locks install.
@@ -425,16 +394,15 @@ fn compare_plans<F: Files, R: Source, W: Sink, N: Sink>(
 {
     let (old, new) = sides;
     let machine = read_machine(alloc, files, reader, installation.machine, true, notes)?;
-    let end = write_plan_diff(
+    program_end(write_plan_diff(
         alloc,
         form,
         &installation.choices,
         Sides { old, new },
         &machine,
         writer,
-    );
-    tell_sides(alloc, notes, &end, old, new, Some(&machine));
-    program_end(end)
+        notes,
+    ))
 }
 
 /// Prints the environment of a target.
@@ -449,13 +417,9 @@ fn print_target<W: Sink, N: Sink>(
 {
     let asked = Query::Environment(target.python, target.platform);
     let end = query(alloc, asked, true, writer);
-    tell_refusal(
-        alloc,
-        notes,
-        &end,
-        None,
-        Some(&MachineInput::Target(target)),
-    );
+    if matches!(end, Ok(REFUSED)) {
+        tell_target(alloc, notes, target);
+    }
     program_end(end)
 }
 

@@ -170,7 +170,7 @@ fn write_findings_document<W: Sink>(
 }
 
 /// Writes the refusal of a file, and to `notes` a line for a person.
-fn write_refused_file<W: Sink, N: Sink>(
+pub(crate) fn write_refused_file<W: Sink, N: Sink>(
     alloc: Global,
     form: Form,
     refusal: &OpenError,
@@ -189,7 +189,7 @@ fn write_refused_file<W: Sink, N: Sink>(
 }
 
 /// Pushes the refusal of a file, and answers the status and what is told.
-pub(crate) fn push_refused_file(
+fn push_refused_file(
     alloc: Global,
     out: &mut Vec<u8>,
     form: Form,

@@ -8,7 +8,8 @@ ghost use Rattle.pylock_program.specs.Choices.{after_choices};
 ghost use Rattle.pylock_program.specs.Inner.Telling.{PushesTelling};
 ghost use Rattle.pylock_program.specs.Refusal.{PrintsTelling, option_shown, refusal_shown};
 ghost use Rattle.pylock_program.specs.Refusal.{refusal_told};
-ghost use Rattle.pylock_program.specs.Show.{report_of_choices, request_report, view_shown};
+ghost use Rattle.pylock_program.specs.Show.{report_of_choices, request_report};
+ghost use Rattle.pylock_program.specs.Show.{unopened_report, view_shown};
 ghost use Rattle.pylock_run.specs.Report.{is_plan};
 
 use crate::choices::{make_choices, option_words};
@@ -93,29 +94,63 @@ fn push_report<N: Sink>(
         }
         Err(Unopened::Refused(OpenError::Memory)) => Err(AllocError),
         Err(unopened) => {
-            let told = told_of(alloc, request, inputs, &unopened)?;
-            push_unopened_told(alloc, out, request.form, &unopened, told.as_ref())?;
-            Ok((REFUSED, told))
+            let named = named_inputs(request.lock, request.machine, inputs);
+            push_named_unopened(alloc, out, request.form, &unopened, named)
         }
     }
 }
 
-/// What is told of why there is no session.
-fn told_of(
+/// Writes why there is no session, and to `notes` a line for a person.
+pub(crate) fn write_unopened<W: Sink, N: Sink>(
     alloc: Global,
-    request: &Request<'_>,
-    inputs: Inputs<'_>,
+    form: Form,
     unopened: &Unopened,
-) -> Result<Option<Diagnostic>, AllocError> {
+    named: (NamedInput<'_>, NamedInput<'_>),
+    writer: &mut W,
+    notes: &mut N,
+) -> Result<u8, RunFault>
+    ensures { PrintsTelling (λ told. unopened_report form told unopened.now)
+        (W.value writer.old) (W.value writer.new) result }
+{
+    let mut out = Vec::new(alloc);
+    let (status, told) = push_named_unopened(alloc, &mut out, form, unopened, named)?;
+    let end = print(&out, status, writer);
+    tell_beside(alloc, notes, &end, told.as_ref());
+    end
+}
+
+/// Pushes why there is no session on this lock in this environment, and answers the status and what
+/// is told.
+fn push_named_unopened(
+    alloc: Global,
+    out: &mut Vec<u8>,
+    form: Form,
+    unopened: &Unopened,
+    named: (NamedInput<'_>, NamedInput<'_>),
+) -> Result<(u8, Option<Diagnostic>), AllocError>
+    ensures { PushesTelling out.old.items out.new.items
+        (λ told. unopened_report form told unopened.now) result }
+{
+    let (lock, environment) = named;
+    let told = told_in(
+        form,
+        unopened_diagnostic(alloc, unopened, lock, environment),
+    )?;
+    push_unopened_told(alloc, out, form, unopened, told.as_ref())?;
+    Ok((REFUSED, told))
+}
+
+/// The lock and the environment, as a person is told of them.
+pub(crate) fn named_inputs<'a>(
+    lock: &'a str,
+    machine: Machine<'a>,
+    inputs: Inputs<'a>,
+) -> (NamedInput<'a>, NamedInput<'a>) {
     let lock = NamedInput::File {
-        path: request.lock,
+        path: lock,
         bytes: inputs.lock,
     };
-    let environment = named_environment(request.machine, inputs.environment);
-    told_in(
-        request.form,
-        unopened_diagnostic(alloc, unopened, request.lock, lock, environment),
-    )
+    (lock, named_environment(machine, inputs.environment))
 }
 
 /// The environment, as a person is told of it: a text by the path of the machine's file.
