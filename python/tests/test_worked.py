@@ -1,5 +1,5 @@
-"""The worked examples of the repository, once through Python: the rows of crates/cases and what stands beside them as
-expected, and the example of the README."""
+"""The worked examples of the repository, once through Python: the rows of crates/cases and of tools/rows and what stands
+beside them as expected, and the example of the README."""
 
 import contextlib
 import io
@@ -18,6 +18,8 @@ from pylock import _library as _native
 READER = toml()
 HEAD = b'lock-version = "1.0"\ncreated-by = "t"\n'
 NOTHING = b'{"environment":{},"tags":[]}'
+# The rows that stand in tools/rows; the others are those of crates/cases.
+ROWS = ("replies", "plans", "explains")
 STATUS = re.compile(r"(^|\n)status [0-9]\Z")
 
 
@@ -52,7 +54,8 @@ def answers():
     One title may stand in several files: commands are told with their lines (`> `), a report with its status.
     """
     found, blocks, kept = {}, [], None
-    for line in text_of("crates", "cases", "stdout").split("\n"):
+    texts = [text_of("crates", "cases", "stdout"), *(text_of("tools", "rows", name + ".txt") for name in ROWS)]
+    for line in "\n".join(texts).split("\n"):
         if line.startswith("-- "):
             name, kept = line[3:], []
             blocks.append((name, kept))
@@ -203,7 +206,8 @@ class Worked(unittest.TestCase):
 
     def rows(self, file, kind, told):
         """The cases of a kind with what is expected of them, told as commands or as a report."""
-        cases = READER.loads(text_of("crates", "cases", "data", file))[kind]
+        place = ("tools", "rows") if file in ROWS else ("crates", "cases", "data")
+        cases = READER.loads(text_of(*place, file + ".toml"))[kind]
         seen = {}
         for case in cases:
             name = title(case)
@@ -216,7 +220,7 @@ class Worked(unittest.TestCase):
 
     def test_replies(self):
         count = 0
-        for name, case, expected in self.rows("replies.toml", "reply", "report"):
+        for name, case, expected in self.rows("replies", "reply", "report"):
             words = [bytes_in(case["long"]).decode() if word == "#" else word for word in case["words"]]
             # the module's own calls make no documents of these
             if words[0] in ("files", "audit") or "--json" in words:
@@ -228,7 +232,7 @@ class Worked(unittest.TestCase):
 
     def test_runs(self):
         count = 0
-        for name, case, expected in self.rows("runs.toml", "run", "report"):
+        for name, case, expected in self.rows("runs", "run", "report"):
             lock = bytes_in(case["lock"]) if "lock" in case else HEAD + bytes_in(case.get("lines", ""))
             environment = bytes_in(case.get("environment", NOTHING.decode()))
             with self.subTest(name):
@@ -258,12 +262,12 @@ class Worked(unittest.TestCase):
 
     def test_plans(self):
         words = lambda line: [line.split(" ")[0], "lock", "environment"] + [word for word in line.split(" ")[1:] if word]
-        self.assertGreater(self.commands("plans.toml", "plan", words), 30)
-        self.assertGreater(self.commands("explains.toml", "explain", words), 5)
+        self.assertGreater(self.commands("plans", "plan", words), 30)
+        self.assertGreater(self.commands("explains", "explain", words), 5)
 
     def test_documents(self):
-        self.assertGreater(self.commands("documents.toml", "document", lambda line: line.split(" ")), 10)
-        self.assertGreater(self.commands("strict.toml", "strict", lambda line: line.split(" ")), 10)
+        self.assertGreater(self.commands("documents", "document", lambda line: line.split(" ")), 10)
+        self.assertGreater(self.commands("strict", "strict", lambda line: line.split(" ")), 10)
 
 
 class Examples(unittest.TestCase):

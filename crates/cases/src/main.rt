@@ -1,11 +1,9 @@
 //! Cases of locks, of entries, of environments, of the messages on them, of sessions, of runs, of
-//! replies, of audits, of JSON documents and of command lines: what each reader, session and
-//! command gives for the texts in `data/`. Or, with the word `steps`, a session that prints
-//! nothing, whose growths and time are measured from outside.
+//! commands and of command lines: what each reader, session and command gives for the texts in
+//! `data/`. Or, with the word `steps`, a session that prints nothing, whose growths and time are
+//! measured from outside.
 #![tactic(auto)]
 
-mod audits;
-mod documents;
 mod edits;
 mod entries;
 mod environments;
@@ -14,7 +12,6 @@ mod keys;
 mod locks;
 mod messages;
 mod plans;
-mod replies;
 mod runs;
 mod sessions;
 mod sources;
@@ -32,20 +29,17 @@ struct Cases;
 impl Answers for Cases {
     fn answer(&self, alloc: Global, kind: &str, case: &Table) -> anyhow::Result<String> {
         match kind {
-            "audit" => audits::answer_case(alloc, case),
             "command" => words::answer_case(alloc, case),
-            "document" | "strict" => documents::answer_case(alloc, case),
+            "document" | "strict" => plans::answer_case(alloc, case),
             "entry" => entries::judge(alloc, case),
             "entry_keys" => entries::answer_case(alloc, case),
             "environment" => environments::judge(alloc, case),
             "environment_keys" => environments::answer_case(alloc, case),
             "environment_message" => messages::of_environment(alloc, case),
-            "explain" | "plan" => plans::answer_case(alloc, case, kind),
             "keys" => keys::answer_case(alloc, case),
             "lock" => locks::judge(alloc, case),
             "lock_keys" => locks::answer_case(alloc, case),
             "lock_message" => messages::of_lock(alloc, case),
-            "reply" => replies::answer_case(alloc, case),
             "run" => runs::answer_case(alloc, case),
             "session" => sessions::answer_case(alloc, case),
             _ => Err(anyhow::anyhow!("no kind of case")),

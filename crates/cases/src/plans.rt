@@ -1,4 +1,5 @@
-//! The commands `plan` and `explain` over a lock and an environment.
+//! The commands over a lock and an environment: the JSON documents that they print, and what a
+//! strict reading refuses.
 
 use crate::runs::{Inputs, read_inputs, text_with_status};
 use case_files::texts;
@@ -8,18 +9,15 @@ use pylock_run::{Pieces, ToWrite};
 use std::alloc::{AllocError, Global};
 use toml::Table;
 
-/// What the command prints with the options of each text, its status, and what a person is told
-/// besides. The words of a text stand between its spaces.
-pub(crate) fn answer_case(alloc: Global, case: &Table, name: &str) -> anyhow::Result<String> {
+/// What each command prints, its status, and what a person is told besides.
+pub(crate) fn answer_case(alloc: Global, case: &Table) -> anyhow::Result<String> {
     let inputs = read_inputs(alloc, case)?;
     let mut told = String::new(alloc);
-    for options in &texts(alloc, case, "options")? {
+    for line in &texts(alloc, case, "commands")? {
         told.push_str("> ")?;
-        told.push_str(name)?;
-        told.push(' ')?;
-        told.push_str(options)?;
+        told.push_str(line)?;
         told.push('\n')?;
-        let words = words(alloc, name, options)?;
+        let words = words(alloc, line)?;
         told.push_str(run(alloc, &inputs, &words)?.as_str())?;
     }
     Ok(told)
@@ -27,7 +25,7 @@ pub(crate) fn answer_case(alloc: Global, case: &Table, name: &str) -> anyhow::Re
 
 /// What the command of these words prints, its status, and what a person is told; of words that
 /// clap refuses, that they are refused.
-pub(crate) fn run(alloc: Global, inputs: &Inputs, words: &[&str]) -> anyhow::Result<String> {
+fn run(alloc: Global, inputs: &Inputs, words: &[&str]) -> anyhow::Result<String> {
     let Ok(task) = command(alloc, words) else {
         return Ok(String::from_str(alloc, "refused by clap\n")?);
     };
@@ -41,16 +39,12 @@ pub(crate) fn run(alloc: Global, inputs: &Inputs, words: &[&str]) -> anyhow::Res
     Ok(told)
 }
 
-/// The words of the command line.
-fn words<'a>(alloc: Global, name: &'a str, options: &'a str) -> Result<Vec<&'a str>, AllocError> {
+/// The program's name, and the words of a command, which stand between its spaces.
+fn words<'a>(alloc: Global, line: &'a str) -> Result<Vec<&'a str>, AllocError> {
     let mut words = Vec::new(alloc);
-    for word in ["pylock", name, "lock", "environment"] {
+    words.push("pylock")?;
+    for word in line.split(' ') {
         words.push(word)?;
-    }
-    if !options.is_empty() {
-        for word in options.split(' ') {
-            words.push(word)?;
-        }
     }
     Ok(words)
 }

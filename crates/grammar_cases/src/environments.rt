@@ -122,7 +122,11 @@ fn variable(name: &str) -> anyhow::Result<Var> {
 }
 
 /// Gives a variable the text after its name, or leaves it without one; or asks for nothing.
-fn change_variable(alloc: Global, environment: &mut Environment, rest: &str) -> anyhow::Result<()> {
+pub(crate) fn change_variable(
+    alloc: Global,
+    environment: &mut Environment,
+    rest: &str,
+) -> anyhow::Result<()> {
     match rest.split_once(' ') {
         Some((name, text)) => set(alloc, environment, variable(name)?, text),
         None if rest.is_empty() => {

@@ -6,6 +6,7 @@ mod environments;
 mod expected;
 mod markers;
 mod names;
+mod pages;
 mod requirements;
 mod sdists;
 mod sets;
@@ -53,6 +54,7 @@ impl Answers for Cases {
             "match" => sets::admit(alloc, case),
             "name" => names::answer_case(alloc, case),
             "order" => versions::compare(alloc, case),
+            "pages" => pages::answer_case(alloc, case),
             "parts" => versions::tell_parts(alloc, case),
             "reads" => markers::tell_reads(alloc, case),
             "requirement" => requirements::answer_case(alloc, case),

@@ -14,7 +14,7 @@ use std::alloc::{AllocError, Global};
 use toml::{Table, Value};
 
 /// How often the calls are made.
-fn times(case: &Table) -> i64 {
+pub(crate) fn times(case: &Table) -> i64 {
     match case.get("times") {
         Some(Value::Integer(times)) => *times,
         _ => 0,

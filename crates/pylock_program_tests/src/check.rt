@@ -1,8 +1,8 @@
 //! What the tests share. What makes a room asserts nothing while it has it: it lends what is
 //! written to what asserts and has nothing to drop.
 
-use pylock_run::{FileFault, Files, Room, RunFault, Source, run};
-use std::alloc::{AllocError, Global};
+use pylock_run::{Room, RunFault, Source, run};
+use std::alloc::AllocError;
 use std::io;
 use std::io::Read;
 use std::process::Abort;
@@ -13,7 +13,7 @@ pub(crate) const HEAD: &str = "lock-version = \"1.0\"\ncreated-by = \"t\"\n";
 /// The environment with nothing set.
 pub(crate) const ENVIRONMENT: &str = "{\"environment\":{},\"tags\":[]}";
 
-/// How much a run writes at most, and is given at once.
+/// How much a run writes at most, and asks for at once.
 pub(crate) const ROOM: usize = 65_536;
 
 /// A reader of bytes, which fails where it is asked for more than `ROOM` at once.
@@ -31,41 +31,6 @@ impl<'a> Read for Narrow<'a> {
     }
 }
 
-/// A lock and an environment, as files of these names.
-#[derive(Drop)]
-pub(crate) struct Shelf<'a> {
-    alloc: Global,
-    lock: &'a [u8],
-    environment: &'a [u8],
-}
-
-impl<'a> Shelf<'a> {
-    pub(crate) fn new(alloc: Global, lock: &'a [u8], environment: &'a [u8]) -> Shelf<'a> {
-        Shelf {
-            alloc,
-            lock,
-            environment,
-        }
-    }
-}
-
-impl<'a> Files for Shelf<'a> {
-    ghost read_gives = { λ _ _ _. Unit {0} };
-
-    fn read(&self, path: &str) -> Result<Vec<u8>, FileFault> {
-        match path {
-            "lock" => Ok(Vec::from_slice(self.alloc, self.lock)?),
-            "environment" => Ok(Vec::from_slice(self.alloc, self.environment)?),
-            "missing" => Err(FileFault::Missing),
-            "folder" => Err(FileFault::Directory),
-            "locked" => Err(FileFault::Permission),
-            "large" => Err(FileFault::Limit),
-            "full" => Err(FileFault::Memory),
-            _ => Err(FileFault::Read),
-        }
-    }
-}
-
 pub(crate) fn check_bytes<R: Abort>(rt: &R, bytes: &[u8], wanted: &[u8]) {
     assert_eq!(rt; bytes, wanted);
 }
@@ -79,7 +44,7 @@ fn check_end<R: Abort>(rt: &R, end: End<'_>, wanted: End<'_>) {
     assert_eq!(rt; end.1, wanted.1);
 }
 
-/// A run over what the reader gives ends so.
+/// A run over what the reader gives, whose text is taken byte by byte, ends so.
 pub(crate) fn check_run<R: Abort + AllocGlobal, S: Source>(
     rt: &R,
     files: (&[u8], &[u8]),
@@ -87,7 +52,7 @@ pub(crate) fn check_run<R: Abort + AllocGlobal, S: Source>(
     wanted: End<'_>,
 ) -> Result<(), AllocError> {
     let (lock, environment) = files;
-    let mut room = Room::new(rt.alloc(), ROOM, ROOM, None)?;
+    let mut room = Room::new(rt.alloc(), ROOM, 1, None)?;
     let answer = run(rt.alloc(), lock, environment, reader, &mut room);
     check_end(rt, (answer, room.bytes()), wanted);
     Ok(())

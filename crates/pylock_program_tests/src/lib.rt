@@ -1,6 +1,6 @@
-//! Runs and the program over readers, writers and files that fail or have no end; sources and
-//! sinks; and JSON documents. The worked examples stand in the data of `cases`. `tools/program` has
-//! the reads and the writes of the built program fail in turn, and refuses its growths.
+//! Runs over readers and writers that fail or have no end; sources and sinks; and JSON documents.
+//! The worked examples stand in the data of `cases`. `tools/program` has the reads and the writes
+//! of the built program fail in turn, and refuses its growths.
 #![tactic(auto)]
 
 #[cfg(test)]
@@ -8,11 +8,7 @@ mod check;
 #[cfg(test)]
 mod json;
 #[cfg(test)]
-mod memory;
-#[cfg(test)]
 mod pieces;
-#[cfg(test)]
-mod program;
 #[cfg(test)]
 mod stream;
 #[cfg(test)]

@@ -1,13 +1,14 @@
 //! Sources and sinks over memory and over readers and writers of std, the loop that writes and the
 //! reading of a whole source.
 
-use crate::check::Narrow;
+use crate::check::{Narrow, check_bytes};
 use pylock_run::{
-    FileFault, FromRead, IoFault, Pieces, Room, Sink, Source, ToWrite, read_whole, write_all,
+    FileFault, FromRead, IoFault, Pieces, Room, Sink, Source, ToWrite, open_fault, read_file,
+    read_whole, write_all,
 };
-use std::alloc::{AllocError, Global};
+use std::alloc::AllocError;
 use std::io;
-use std::io::{Cursor, Read, Write};
+use std::io::{Cursor, ErrorKind, Read, Write};
 use std::process::Abort;
 use std::test::Fail;
 
@@ -19,10 +20,6 @@ fn check_read<R: Abort, S: Source>(
     wanted: Result<usize, IoFault>,
 ) {
     assert_eq!(rt; source.read(buffer), wanted);
-}
-
-fn check_bytes<R: Abort>(rt: &R, bytes: &[u8], wanted: &[u8]) {
-    assert_eq!(rt; bytes, wanted);
 }
 
 #[test]
@@ -129,7 +126,17 @@ fn check_whole<R: Abort + AllocGlobal, S: Source>(
     source: &mut S,
     wanted: Result<&[u8], FileFault>,
 ) {
-    match read_whole(rt.alloc(), source, 10) {
+    check_limited(rt, source, 10, wanted);
+}
+
+/// Reading the whole source, of so many bytes at most, ends so.
+fn check_limited<R: Abort + AllocGlobal, S: Source>(
+    rt: &R,
+    source: &mut S,
+    limit: u64,
+    wanted: Result<&[u8], FileFault>,
+) {
+    match read_whole(rt.alloc(), source, limit) {
         Ok(bytes) => check_given(rt, Ok(bytes.as_slice()), wanted),
         Err(fault) => check_given(rt, Err(fault), wanted),
     }
@@ -146,38 +153,53 @@ fn reads_up_to_the_limit(rt: HostRuntime) {
 }
 
 #[test]
-fn reads_no_end(rt: HostRuntime) {
+fn reads_nothing_and_no_end(rt: HostRuntime) {
+    check_limited(&rt, &mut Pieces::new(b"", 1, None), 0, Ok(b""));
     check_whole(&rt, &mut Endless, Err(FileFault::Limit));
 }
 
-/// How many bytes a reader that fails where it is asked for more than a piece gives of those.
-fn narrow_length(alloc: Global, bytes: &[u8]) -> Result<usize, FileFault> {
-    let read = read_whole(alloc, &mut FromRead::new(Narrow { rest: bytes }), 200_000)?;
-    Ok(read.len())
-}
-
+/// The reader fails where it is asked for more than a piece.
 #[test]
 fn asks_for_one_piece_at_once(rt: HostRuntime) -> Result<(), Fail> {
     let bytes = vec![in rt.alloc(); b'x'; 200_000]?;
-    assert_eq!(rt; narrow_length(rt.alloc(), bytes.as_slice()), Ok(200_000));
+    let mut reader = FromRead::new(Narrow { rest: &bytes });
+    check_limited(&rt, &mut reader, 200_000, Ok(&bytes));
     Ok(())
-}
-
-/// Nothing, of which there may be nothing, is read.
-fn is_empty(alloc: Global) -> Result<bool, FileFault> {
-    let empty = read_whole(alloc, &mut Pieces::new(b"", 1, None), 0)?;
-    Ok(empty.is_empty())
-}
-
-#[test]
-fn reads_nothing(rt: HostRuntime) {
-    assert_eq!(rt; is_empty(rt.alloc()), Ok(true));
 }
 
 #[test]
 fn tells_a_failed_read(rt: HostRuntime) {
     let mut pieces = Pieces::new(b"0123456789", 3, Some(2));
     check_whole(&rt, &mut pieces, Err(FileFault::Read));
+}
+
+/// A file in two pieces is read so, of which the read of that number fails.
+fn check_file<R: Abort + AllocGlobal>(
+    rt: &R,
+    failing: Option<u64>,
+    wanted: Result<&[u8], FileFault>,
+) {
+    match read_file(rt.alloc(), &mut Pieces::new(b"lock", 3, failing)) {
+        Ok(bytes) => check_given(rt, Ok(bytes.as_slice()), wanted),
+        Err(fault) => check_given(rt, Err(fault), wanted),
+    }
+}
+
+#[test]
+fn reads_a_file(rt: HostRuntime) {
+    check_file(&rt, None, Ok(b"lock"));
+    check_file(&rt, Some(2), Err(FileFault::Read));
+}
+
+#[test]
+fn tells_why_a_file_is_not_opened(rt: HostRuntime) {
+    assert_eq!(rt; open_fault(ErrorKind::NotFound), FileFault::Missing);
+    assert_eq!(rt;
+        open_fault(ErrorKind::PermissionDenied),
+        FileFault::Permission
+    );
+    assert_eq!(rt; open_fault(ErrorKind::OutOfMemory), FileFault::Memory);
+    assert_eq!(rt; open_fault(ErrorKind::Other), FileFault::Read);
 }
 
 /// A reader over bytes, and a writer onto others, whose calls do in turn what `steps` says: a count
