@@ -12,10 +12,15 @@ Judge *new_judge(State *state, PyTypeObject *type)
 
 bool take_judged(PyObject *arguments, PyObject *named, const char *format, char **words, PyObject **taken)
 {
-    Py_ssize_t count = PyTuple_Size(arguments);
-    if (named != NULL || count > 2) return take_arguments(arguments, named, format, words, taken);
+    Py_ssize_t count = PyTuple_Size(arguments), place = 0;
+    PyObject *name, *second = NULL;
+    /* the second one alone by its name, as mostly */
+    if (named != NULL && count == 1 && PyDict_Size(named) == 1 && PyDict_Next(named, &place, &name, &second) != 0)
+        second = PyUnicode_Check(name) && PyUnicode_CompareWithASCIIString(name, words[1]) == 0 ? hold(second) : NULL;
+    if ((named != NULL && second == NULL) || count > 2) return take_arguments(arguments, named, format, words, taken);
     for (Py_ssize_t index = 0; index < MOST_TAKEN; index++)
         taken[index] = index < count ? hold(PyTuple_GetItem(arguments, index)) : NULL;
+    if (second != NULL) taken[1] = second;
     return true;
 }
 
@@ -64,17 +69,25 @@ void judge_dealloc(PyObject *self)
 
 /* ---- the slot ---- */
 
-static PyObject *text_of_judge(const Judge *judge)
+/* The text of a set, or that of the pair of a specifier, whose members are held. */
+static PyObject *take_text(Judge *judge, Pair *pair)
 {
-    return judge->is_set ? ((const Set *)judge)->text : ((const Specifier *)judge)->text;
+    if (judge->is_set) return set_text((PyObject *)judge);
+    return take_pair((Specifier *)judge, pair) ? text_of_pair(pair) : NULL;
+}
+
+/* Whether it is the text still, as what else ran meanwhile may have read another one. */
+static bool is_text_of(const Judge *judge, PyObject *text, const Pair *pair)
+{
+    return judge->is_set ? ((const Set *)judge)->text == text : is_pair_of(pair, (const Specifier *)judge);
 }
 
 /* Reads the text into the slot, unless there is another text or a slot by now: false with an exception. */
-static bool read_slot(Judge *judge, PyObject *text)
+static bool read_slot(Judge *judge, PyObject *text, const Pair *pair)
 {
     Text view;
     if (!text_of(text, &view)) return false;
-    bool is_its = text_of_judge(judge) == text && !judge->slot.full;
+    bool is_its = is_text_of(judge, text, pair) && !judge->slot.full;
     int32_t code = is_its ? pylock_set_parse(&judge->slot, view.bytes, view.length) : PYLOCK_OK;
     text_done(&view);
     if (code != PYLOCK_OK) raise_refusal(judge->state, code, text, "specifier");
@@ -84,9 +97,11 @@ static bool read_slot(Judge *judge, PyObject *text)
 bool fill_slot(Judge *judge)
 {
     while (!judge->slot.full) {
-        PyObject *text = judge->is_set ? set_text((PyObject *)judge) : specifier_text((PyObject *)judge);
-        bool is_good = text != NULL && read_slot(judge, text);
+        Pair pair = {NULL, NULL};
+        PyObject *text = take_text(judge, &pair);
+        bool is_good = text != NULL && read_slot(judge, text, &pair);
         let_go(text);
+        let_pair_go(&pair);
         if (!is_good) return false;
     }
     return true;
@@ -227,7 +242,8 @@ bool place_arguments(const char *function, const char *const *words, PyObject *c
         is_placed[index] = true;
     }
     for (Py_ssize_t index = 0; is_good && index < named; index++) {
-        int place = 0;
+        /* one of those that weren't given by their places */
+        int place = (int)count;
         PyObject *name = PyTuple_GetItem(names, index);
         while (place < PLACES_OF_CALL && PyUnicode_CompareWithASCIIString(name, words[place]) != 0) place++;
         is_good = place < PLACES_OF_CALL && !is_placed[place];
@@ -311,9 +327,16 @@ PyObject *get_asks(PyObject *self, void *closure)
 
 PyObject *judge_repr(PyObject *self)
 {
-    PyObject *forced = hold(((Judge *)self)->forced);
+    Judge *judge = (Judge *)self;
+    bool is_own = Py_TYPE(self) != (judge->is_set ? judge->state->set_class : judge->state->specifier_class);
+    if (!is_own && judge->forced == NULL) {
+        PyObject *text = PyObject_Str(self);
+        PyObject *shown = text == NULL ? NULL : PyUnicode_FromFormat(judge->is_set ? "<SpecifierSet(%R)>" : "<Specifier(%R)>", text);
+        Py_XDECREF(text);
+        return shown;
+    }
+    PyObject *forced = hold(judge->forced), *shown = NULL;
     PyObject *name = PyObject_GetAttrString((PyObject *)Py_TYPE(self), "__name__"), *text = name == NULL ? NULL : PyObject_Str(self);
-    PyObject *shown = NULL;
     if (text != NULL && forced == NULL)
         shown = PyUnicode_FromFormat("<%S(%R)>", name, text);
     else if (text != NULL)

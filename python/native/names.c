@@ -182,41 +182,6 @@ static PyObject *marker_pieces(PyObject *module, PyObject *text)
 
 /* ---- requirements ---- */
 
-static bool is_white(uint8_t byte)
-{
-    return byte == ' ' || (byte >= '\t' && byte <= '\r');
-}
-
-static void skip(Text *text, size_t length)
-{
-    text->bytes += length;
-    text->length -= length;
-}
-
-static void strip(Text *text)
-{
-    while (text->length > 0 && is_white(text->bytes[0])) skip(text, 1);
-    while (text->length > 0 && is_white(text->bytes[text->length - 1])) text->length--;
-}
-
-/* The text of the set, in a requirement that has one: what stands behind name and extras, up to a `;`. */
-static Text set_in(Text rest, size_t name_length)
-{
-    Text piece;
-    strip(&rest);
-    skip(&rest, name_length);
-    strip(&rest);
-    if (rest.length > 0 && rest.bytes[0] == '[') cut_text(&rest, ']', &piece);
-    cut_text(&rest, ';', &piece);
-    strip(&piece);
-    if (piece.length > 1 && piece.bytes[0] == '(') {
-        skip(&piece, 1);
-        piece.length--;
-        strip(&piece);
-    }
-    return piece;
-}
-
 /* The name: the text itself where it is all of that. */
 static PyObject *next_name(Record *record, PyObject *text, const Text *whole)
 {
@@ -246,20 +211,22 @@ static PyObject *next_extras(Record *record)
     return extras;
 }
 
-/* The text of the set as it is written, of the requirement with this name; an empty one where it has none. */
-static PyObject *next_set(Record *record, const Text *whole, PyObject *name)
+/* The text of the set as it is written, of a requirement that has one; else an empty one. */
+static PyObject *next_set(State *state, Record *record, PyObject *text, const Text *whole)
 {
-    Text view, set = {(const uint8_t *)"", 0, NULL};
-    PyObject *field = next_field(record);
+    Result written;
+    PyObject *field = next_field(record), *set = NULL;
     if (field == NULL) return NULL;
     bool has_set = field != Py_None;
     Py_DECREF(field);
-    if (has_set) {
-        if (!text_of(name, &view)) return NULL;
-        set = set_in(*whole, view.length);
-        text_done(&view);
-    }
-    return str_of(set.bytes, set.length);
+    if (!has_set) return PyUnicode_FromString("");
+    int32_t code = result_of_text(pylock_requirement_set, whole, &written);
+    if (code == PYLOCK_OK)
+        set = str_of(written.bytes, written.length);
+    else
+        raise_refusal(state, code, text, "requirement");
+    result_done(&written);
+    return set;
 }
 
 static PyObject *next_marker(State *state, Record *record)
@@ -275,7 +242,7 @@ static PyObject *parts_of_record(State *state, Record *record, PyObject *text, c
 {
     PyObject *name, *extras = NULL, *set = NULL, *url = NULL, *marker = NULL, *parts = NULL;
     if ((name = next_name(record, text, whole)) != NULL && (extras = next_extras(record)) != NULL &&
-        (set = next_set(record, whole, name)) != NULL && (url = next_field(record)) != NULL &&
+        (set = next_set(state, record, text, whole)) != NULL && (url = next_field(record)) != NULL &&
         (marker = next_marker(state, record)) != NULL)
         parts = PyTuple_Pack(5, name, url, extras, set, marker);
     Py_XDECREF(name);
@@ -294,7 +261,7 @@ static PyObject *requirement_parts(PyObject *module, PyObject *text)
     pylock_text kept = {0};
     PyObject *parts = NULL;
     if (!text_of(text, &view)) return NULL;
-    /* what runs meanwhile may take the text away, of which the set is cut */
+    /* what runs meanwhile may take the text away, which is asked for the set */
     hold(text);
     result.bytes = result.near;
     int32_t code = pylock_requirement(view.bytes, view.length, &kept);

@@ -85,6 +85,11 @@ PyObject *new_object_of(State *state, PyTypeObject *type, Spares *spares, size_t
     return self;
 }
 
+PyObject *usual_reduce(PyObject *self, PyObject *protocol)
+{
+    return PyObject_CallMethod((PyObject *)&PyBaseObject_Type, "__reduce_ex__", "(OO)", self, protocol);
+}
+
 void free_object(PyObject *self)
 {
     PyTypeObject *type = Py_TYPE(self);
@@ -202,6 +207,29 @@ static PyObject *use_set(PyObject *module, PyObject *type)
     Py_RETURN_NONE;
 }
 
+/* __instancecheck__(self, instance) of the class of an abstract class: that one knows at once its own two. */
+static PyObject *check_instance(PyObject *self, PyObject *instance)
+{
+    State *state = single_state();
+    PyTypeObject *type = Py_TYPE(instance);
+    bool is_own = state != NULL && self == state->abstract_class && (type == state->specifier_class || type == state->set_class);
+    return is_own ? hold(Py_True) : PyObject_CallMethod(self, "_has_instance", "(O)", instance);
+}
+
+static PyMethodDef instance_check = {"__instancecheck__", check_instance, METH_O, NULL};
+
+static PyObject *use_abstract(PyObject *module, PyObject *type)
+{
+    State *state = state_of(module);
+    if (!is_class_of(type, &PyBaseObject_Type)) return NULL;
+    PyObject *check = PyDescr_NewMethod(Py_TYPE(type), &instance_check);
+    bool is_good = check != NULL && PyObject_SetAttrString((PyObject *)Py_TYPE(type), instance_check.ml_name, check) == 0;
+    Py_XDECREF(check);
+    if (!is_good) return NULL;
+    put(&state->abstract_class, type);
+    Py_RETURN_NONE;
+}
+
 static PyObject *use_marker(PyObject *module, PyObject *type)
 {
     State *state = state_of(module);
@@ -215,6 +243,7 @@ static PyMethodDef functions[] = {
     {"use_version", use_version, METH_O, PyDoc_STR("The class of which versions in results are made.")},
     {"use_specifier", use_specifier, METH_O, PyDoc_STR("The class of which specifiers of sets are made.")},
     {"use_set", use_set, METH_O, PyDoc_STR("The class of which sets of specifiers in results are made.")},
+    {"use_abstract", use_abstract, METH_O, PyDoc_STR("The abstract class of specifiers and sets, whose class gets what `isinstance` asks.")},
     {"use_marker", use_marker, METH_O, PyDoc_STR("The class of which markers in results are made.")},
     {"use_tag", use_tag, METH_O, PyDoc_STR("The class of which tags in results are made.")},
     {NULL, NULL, 0, NULL},
@@ -233,10 +262,12 @@ static PyMethodDef functions[] = {
     word(state->layers);                                                                                                 \
     word(state->session);                                                                                                \
     word(state->owner);                                                                                                  \
+    word(state->field_method);                                                                                           \
     word(state->version_class);                                                                                          \
     word(state->tag_class);                                                                                              \
     word(state->specifier_class);                                                                                        \
     word(state->set_class);                                                                                              \
+    word(state->abstract_class);                                                                                         \
     word(state->operators);                                                                                              \
     word(state->marker_class);                                                                                           \
     word(state->refuse);                                                                                                 \
@@ -312,7 +343,7 @@ static int module_exec(PyObject *module)
     if (!add_versions(module, state) || !add_tags(module, state) || !add_names(module, state)) return -1;
     if (!add_kept(module, state) || !add_specifiers(module, state) || !add_sets(module, state)) return -1;
     if (!add_filters(module, state) || !add_layers(module, state) || !add_markers(module, state)) return -1;
-    if (!add_locks(module, state) || !add_tables(module)) return -1;
+    if (!add_locks(module, state) || !add_tables(module) || !add_fields(module, state)) return -1;
     return add_codes(module) ? PyModule_AddFunctions(module, functions) : -1;
 }
 

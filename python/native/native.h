@@ -134,9 +134,11 @@ typedef struct {
     /* the module, and each object of its types: an object may outlive the module where the collector takes both apart */
     Py_ssize_t users;
     /* NULL where the module was taken apart */
-    PyTypeObject *version, *tag, *set, *specifier, *filter, *marker, *environment, *layers, *session, *owner;
+    PyTypeObject *version, *tag, *set, *specifier, *filter, *marker, *environment, *layers, *session, *owner, *field_method;
     /* the classes of the Python layer, of which results are made: the types themselves until `use` says otherwise */
     PyTypeObject *version_class, *tag_class, *specifier_class, *set_class, *marker_class;
+    /* the abstract class of specifiers and sets, or NULL */
+    PyObject *abstract_class;
     /* the operators of specifiers: a tuple */
     PyObject *operators;
     /* Python functions that tell the exception of a code, or NULL; and what the first has told, by its number */
@@ -303,6 +305,8 @@ PyObject *no_new(PyTypeObject *type, PyObject *arguments, PyObject *named);
 PyObject *new_object(State *state, PyTypeObject *type);
 /* The same in the memory of one that was let go of, if there is any. */
 PyObject *new_object_of(State *state, PyTypeObject *type, Spares *spares, size_t size);
+/* What a pickle has of an object of a class of one's own: `object` asks the class. */
+PyObject *usual_reduce(PyObject *self, PyObject *protocol);
 /* Frees such an object, whose parts were given up. */
 void free_object(PyObject *self);
 /* The same, or keeps its memory. */
@@ -349,8 +353,11 @@ bool add_names(PyObject *module, State *state);
 bool add_kept(PyObject *module, State *state);
 bool add_locks(PyObject *module, State *state);
 bool add_tables(PyObject *module);
+bool add_fields(PyObject *module, State *state);
 
 PyObject *normal_name(State *state, PyObject *text);
+/* An object of a class that is made in Python, without its __init__: NULL with an exception. */
+PyObject *new_of(PyObject *kind);
 /* Whether the pieces of the parts of a list, from this place on, are each in the order of texts (PEP 425); else 0, and the first
  * part that isn't and what it is to be, or -1 with an exception. */
 int are_in_order(PyObject *parts, Py_ssize_t from, PyObject **part, PyObject **ordered);

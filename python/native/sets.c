@@ -67,7 +67,7 @@ static PyObject *text_of_item(State *state, PyObject *item)
     return specifier_text(item);
 }
 
-/* The texts of a list with commas between. */
+/* The texts of a list or tuple with commas between. */
 static PyObject *with_commas(PyObject *texts)
 {
     PyObject *comma = texts == NULL ? NULL : PyUnicode_FromString(",");
@@ -147,6 +147,7 @@ static PyObject *set_items(PyObject *self)
 {
     Set *set = (Set *)self;
     if (set->items != NULL && !is_joined(set->items)) return hold(set->items);
+    if (set->items == NULL && set->text != NULL && set->count == 0) return hold(set->items = PyTuple_New(0));
     PyObject *part = part_of(set->items, set->text), *before = hold(set->items);
     PyObject *items = NULL;
     if (part != NULL) items = is_joined(part) ? items_of_parts(set->judge.state, part) : items_of_part(set->judge.state, part);
@@ -183,27 +184,42 @@ static void make_empty(Set *set)
     while (set->text != NULL || set->items != NULL) forget_set((PyObject *)set);
 }
 
+/* The code of the library on the text of a set, the number of its specifiers, and whether one compares texts. */
+static int32_t judge_text(PyObject *text, Py_ssize_t *count, bool *has_exact)
+{
+    Text view;
+    Spans spans;
+    if (!text_of(text, &view)) return -1;
+    int32_t code = spans_of(&view, &spans);
+    *has_exact = false;
+    for (size_t place = 0; code == PYLOCK_OK && place < spans.count; place++) *has_exact |= is_exact_sign(&spans.each[place]);
+    *count = (Py_ssize_t)spans.count;
+    spans_done(&spans);
+    text_done(&view);
+    return code;
+}
+
+/* Gives the set a text that was judged, or specifiers, in place of what it has. */
+static void put_whole(Set *set, PyObject *text, PyObject *items, Py_ssize_t count, bool has_exact)
+{
+    make_empty(set);
+    set->text = text;
+    set->items = items;
+    set->count = count;
+    set->judge.has_exact = has_exact;
+}
+
 /* Reads a text, in place of what the set has: whole, or not at all. Its specifiers are made, and its set is kept, when it is
  * asked for them. */
 static bool read_text(Set *set, PyObject *text)
 {
-    Text view;
-    Spans spans;
-    bool has_exact = false;
-    if (!text_of(text, &view)) return false;
-    int32_t code = spans_of(&view, &spans);
-    for (size_t place = 0; code == PYLOCK_OK && place < spans.count; place++) has_exact |= is_exact_sign(&spans.each[place]);
-    Py_ssize_t count = (Py_ssize_t)spans.count;
-    spans_done(&spans);
-    text_done(&view);
-    if (code != PYLOCK_OK) raise_refusal(set->judge.state, code, text, "specifier");
+    Py_ssize_t count;
+    bool has_exact;
+    int32_t code = judge_text(text, &count, &has_exact);
+    if (code > PYLOCK_OK) raise_refusal(set->judge.state, code, text, "specifier");
     PyObject *kept = code == PYLOCK_OK ? exact_text(text) : NULL;
-    if (kept == NULL) return false;
-    make_empty(set);
-    set->text = kept;
-    set->count = count;
-    set->judge.has_exact = has_exact;
-    return true;
+    if (kept != NULL) put_whole(set, kept, NULL, count, has_exact);
+    return kept != NULL;
 }
 
 /* What a class of the Python layer, NULL where the module was taken apart, makes of a text. */
@@ -228,29 +244,61 @@ static PyObject *item_of(State *state, PyObject *one)
     return PyErr_Format(PyExc_TypeError, "expected a str or Specifiers, not %R", (PyObject *)Py_TYPE(one));
 }
 
-static PyObject *tuple_of_items(State *state, PyObject *given)
+static PyObject *tuple_of_items(State *state, PyObject *sequence)
 {
-    PyObject *all = PySequence_Tuple(given);
-    PyObject *items = all == NULL ? NULL : list_of_each(state, all, item_of);
+    PyObject *items = list_of_each(state, sequence, item_of);
     PyObject *tuple = items == NULL ? NULL : PyList_AsTuple(items);
     Py_XDECREF(items);
-    Py_XDECREF(all);
     return tuple;
 }
 
 /* The same of specifiers, or of texts of them. */
-static bool take_items(Set *set, PyObject *given)
+static bool take_each(Set *set, PyObject *each)
 {
     bool has_exact = false;
-    PyObject *items = tuple_of_items(set->judge.state, given);
+    PyObject *items = tuple_of_items(set->judge.state, each);
     if (items == NULL) return false;
     Py_ssize_t count = PyTuple_Size(items);
     for (Py_ssize_t place = 0; place < count; place++) has_exact |= ((Judge *)PyTuple_GetItem(items, place))->has_exact;
-    make_empty(set);
-    set->items = items;
-    set->count = count;
-    set->judge.has_exact = has_exact;
+    put_whole(set, NULL, items, count, has_exact);
     return true;
+}
+
+/* Whether each of a tuple is the text of one specifier, as far as it can be seen. */
+static bool are_texts(PyObject *each)
+{
+    bool are = PyTuple_Size(each) > 0;
+    for (Py_ssize_t place = 0; are && place < PyTuple_Size(each); place++) {
+        PyObject *one = PyTuple_GetItem(each, place);
+        Py_ssize_t length = PyUnicode_CheckExact(one) ? PyUnicode_GetLength(one) : 0;
+        are = length > 0 && PyUnicode_FindChar(one, ',', 0, length, 1) == -1;
+    }
+    return are;
+}
+
+/* Reads the texts of a tuple as one: false, mostly without an exception, where one of them isn't the text of a specifier. */
+static bool read_texts(Set *set, PyObject *each)
+{
+    Py_ssize_t count;
+    bool has_exact;
+    PyObject *text = with_commas(each);
+    int32_t code = text == NULL ? -1 : judge_text(text, &count, &has_exact);
+    if (code == PYLOCK_MEMORY) PyErr_NoMemory();
+    bool is_good = code == PYLOCK_OK && count == PyTuple_Size(each);
+    if (is_good) put_whole(set, hold(text), NULL, count, has_exact);
+    Py_XDECREF(text);
+    return is_good;
+}
+
+/* Takes specifiers, or texts of them, in place of what the set has; what is wrong in a text is found where it is read alone. */
+static bool take_items(Set *set, PyObject *given)
+{
+    /* a tuple, as Python 3.11 loses what it makes a list of where memory is refused */
+    PyObject *each = PySequence_Tuple(given);
+    bool is_good = each != NULL && are_texts(each) && read_texts(set, each);
+    if (!is_good && each != NULL && !PyErr_Occurred()) is_good = take_each(set, each);
+    Py_XDECREF(each);
+    return is_good;
 }
 
 static int set_init(PyObject *self, PyObject *arguments, PyObject *named)
@@ -505,10 +553,14 @@ static PyObject *set_str(PyObject *self)
     return shown;
 }
 
+/* Empty sets are equal to no other. */
+enum { EMPTY_HASH = 1 };
+
 static Py_hash_t set_hash(PyObject *self)
 {
     Set *set = (Set *)self;
     if (set->judge.hash != -1) return set->judge.hash;
+    if (judge_lets_all(&set->judge)) return EMPTY_HASH;
     PyObject *items = set_items(self), *distinct = items == NULL ? NULL : PyFrozenSet_New(items);
     Py_hash_t hash = distinct == NULL ? -1 : short_hash(distinct);
     /* as in the text */
@@ -557,8 +609,11 @@ static PyObject *set_is_unsatisfiable(PyObject *self, PyObject *nothing)
     Set *set = (Set *)self;
     (void)nothing;
     if (set->judge.unsatisfiable != UNKNOWN) return PyBool_FromLong(set->judge.unsatisfiable == YES);
-    PyObject *items = set_items(self), *forced = hold(set->judge.forced);
-    PyObject *found = items == NULL ? NULL : PyObject_CallMethod(self, "_has_no_version", "(O)", items);
+    PyObject *items = set_items(self), *forced = hold(set->judge.forced), *found = NULL;
+    if (items != NULL && PyTuple_Size(items) == 0)
+        found = hold(Py_False);
+    else if (items != NULL)
+        found = PyObject_CallMethod(self, "_has_no_version", "(O)", items);
     int told = found == NULL ? -1 : PyObject_IsTrue(found);
     /* what else ran meanwhile may have read another text, or said more */
     if (told >= 0 && set->items == items && set->judge.forced == forced) set->judge.unsatisfiable = told ? YES : NO;

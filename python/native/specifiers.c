@@ -47,9 +47,10 @@ static PyObject *made_operators(void)
 
 static int place_of_sign(const Span *span, const Text *view)
 {
+    const char *sign = (const char *)view->bytes + span->sign;
     size_t length = span->sign_end - span->sign;
-    int place = 0;
-    while (place < EXACT && (strlen(signs[place]) != length || memcmp(view->bytes + span->sign, signs[place], length) != 0)) place++;
+    int place = length == strlen(signs[EXACT]) ? EXACT : 0;
+    while (place < EXACT && (signs[place][0] != sign[0] || signs[place][1] != (length == 1 ? '\0' : sign[1]))) place++;
     return place;
 }
 
@@ -64,18 +65,18 @@ void forget_specifier(PyObject *self)
 {
     Specifier *specifier = (Specifier *)self;
     pylock_set slot = specifier->judge.slot;
-    PyObject *had[] = {specifier->operator, specifier->version, specifier->text, specifier->normal, specifier->judge.exact};
+    PyObject *had[] = {specifier->operator, specifier->version, specifier->normal, specifier->judge.exact};
     memset(&specifier->judge.slot, 0, sizeof slot);
-    specifier->operator = specifier->version = specifier->text = specifier->normal = specifier->judge.exact = NULL;
+    specifier->operator = specifier->version = specifier->normal = specifier->judge.exact = NULL;
     specifier->judge.hash = -1;
     specifier->judge.early = UNKNOWN;
     pylock_set_free(&slot);
     for (size_t place = 0; place < sizeof had / sizeof *had; place++) Py_XDECREF(had[place]);
 }
 
-/* Gives a specifier the text of a span, in place of what it has: false with an exception. Its set is kept from when it is
- * first asked, as that takes longer. `whole` has the view, and is the specifier's text where there is nothing else in it. */
-static bool give_span(Specifier *specifier, const Span *span, PyObject *whole, const Text *view)
+/* Gives a specifier what stands in a span, in place of what it has: false with an exception. Its set is kept from when it is
+ * first asked, as that takes longer. */
+static bool give_span(Specifier *specifier, const Span *span, const Text *view)
 {
     int place = place_of_sign(span, view);
     size_t length = span->operand_end - span->operand;
@@ -83,19 +84,15 @@ static bool give_span(Specifier *specifier, const Span *span, PyObject *whole, c
     PyObject *operators = specifier->judge.state->operators;
     PyObject *operator = operators == NULL ? PyUnicode_InternFromString(signs[place]) : hold(PyTuple_GetItem(operators, place));
     PyObject *version = str_of(view->bytes + span->operand, length);
-    bool is_whole = span->sign_end - span->sign + length == view->length;
-    PyObject *text = is_whole ? exact_text(whole) : NULL;
-    if (operator == NULL || version == NULL || (is_whole && text == NULL)) {
+    if (operator == NULL || version == NULL) {
         Py_XDECREF(operator);
         Py_XDECREF(version);
-        Py_XDECREF(text);
         return false;
     }
     /* what else ran meanwhile may have read another */
     while (specifier->operator != NULL) forget_specifier((PyObject *)specifier);
     specifier->operator = operator;
     specifier->version = version;
-    specifier->text = text;
     specifier->judge.sign = (unsigned char)place;
     specifier->judge.has_exact = place == EXACT;
     return true;
@@ -112,7 +109,7 @@ static bool read_specifier(Specifier *specifier, PyObject *text)
     int32_t code = spans_of(&view, &spans);
     bool is_one = code == PYLOCK_OK && spans.count == 1 && memchr(view.bytes, ',', view.length) == NULL;
     if (is_one)
-        is_good = give_span(specifier, spans.each, text, &view);
+        is_good = give_span(specifier, spans.each, &view);
     else
         raise_refusal(specifier->judge.state, code == PYLOCK_OK ? PYLOCK_SET_SYNTAX : code, text, "specifier");
     spans_done(&spans);
@@ -158,12 +155,7 @@ static int specifier_clear(PyObject *self)
 
 /* ---- what is asked of a specifier ---- */
 
-/* The operator and the operand, which are held; or an exception where there are none. */
-typedef struct {
-    PyObject *operator, *version;
-} Pair;
-
-static bool take_pair(const Specifier *specifier, Pair *pair)
+bool take_pair(const Specifier *specifier, Pair *pair)
 {
     pair->operator = hold(specifier->operator);
     pair->version = hold(specifier->version);
@@ -172,26 +164,27 @@ static bool take_pair(const Specifier *specifier, Pair *pair)
     return false;
 }
 
-static void let_pair_go(Pair *pair)
+void let_pair_go(Pair *pair)
 {
     let_go(pair->operator);
     let_go(pair->version);
 }
 
-/* Whether the pair is the specifier's still: what else ran meanwhile may have read another text. */
-static bool is_pair_of(const Pair *pair, const Specifier *specifier)
+bool is_pair_of(const Pair *pair, const Specifier *specifier)
 {
     return specifier->version == pair->version && specifier->operator == pair->operator;
+}
+
+PyObject *text_of_pair(const Pair *pair)
+{
+    return PyUnicode_Concat(pair->operator, pair->version);
 }
 
 PyObject *specifier_text(PyObject *self)
 {
     Pair pair;
-    Specifier *specifier = (Specifier *)self;
-    if (specifier->text != NULL) return hold(specifier->text);
-    if (!take_pair(specifier, &pair)) return NULL;
-    PyObject *text = PyUnicode_Concat(pair.operator, pair.version);
-    if (text != NULL && is_pair_of(&pair, specifier) && specifier->text == NULL) specifier->text = hold(text);
+    if (!take_pair((Specifier *)self, &pair)) return NULL;
+    PyObject *text = text_of_pair(&pair);
     let_pair_go(&pair);
     return text;
 }
@@ -311,11 +304,37 @@ static PyObject *specifier_reduce(PyObject *self, PyObject *nothing)
     return reduced;
 }
 
-/* The same, which pickles ask first: `object` asks a class of one's own for its way. */
+/* The same, which pickles ask first. */
 static PyObject *specifier_reduce_ex(PyObject *self, PyObject *protocol)
 {
-    if (Py_TYPE(self) == ((Judge *)self)->state->specifier_class) return specifier_reduce(self, NULL);
-    return PyObject_CallMethod((PyObject *)&PyBaseObject_Type, "__reduce_ex__", "(OO)", self, protocol);
+    bool is_own = Py_TYPE(self) != ((Judge *)self)->state->specifier_class;
+    return is_own ? usual_reduce(self, protocol) : specifier_reduce(self, NULL);
+}
+
+/* Whether two specifiers say the same: -1 with an exception. */
+static int say_the_same(PyObject *left, PyObject *right)
+{
+    PyObject *one = specifier_canonical(left, NULL), *other = one == NULL ? NULL : specifier_canonical(right, NULL);
+    int are_equal = other == NULL ? -1 : PyObject_RichCompareBool(one, other, Py_EQ);
+    Py_XDECREF(other);
+    Py_XDECREF(one);
+    return are_equal;
+}
+
+/* With a text and with specifiers of one's own class the Python layer compares, which one of the type itself doesn't have. */
+static PyObject *specifier_compare(PyObject *self, PyObject *other, int how)
+{
+    const State *state = ((Judge *)self)->state;
+    PyTypeObject *type = state->specifier_class;
+    bool are_own = Py_TYPE(self) == type && Py_TYPE(other) == type;
+    if ((how != Py_EQ && how != Py_NE) || (!are_own && Py_TYPE(self) == state->specifier)) return hold(Py_NotImplemented);
+    PyObject *told = NULL;
+    int are_equal = are_own ? say_the_same(self, other) : -2;
+    if (are_equal == -2) told = PyObject_CallMethod(self, "_equals", "(O)", other);
+    if (told == Py_NotImplemented) return told;
+    if (told != NULL) are_equal = PyObject_IsTrue(told);
+    Py_XDECREF(told);
+    return are_equal < 0 ? NULL : PyBool_FromLong(are_equal == (how == Py_EQ));
 }
 
 /* A copy has what the text says; one of one's own class has what a pickle has. */
@@ -384,6 +403,7 @@ static PyType_Slot specifier_slots[] = {
     {Py_tp_traverse, specifier_traverse},
     {Py_tp_clear, specifier_clear},
     {Py_tp_hash, specifier_hash},
+    {Py_tp_richcompare, specifier_compare},
     {Py_tp_str, specifier_text},
     {Py_tp_repr, judge_repr},
     {Py_sq_contains, judge_in},
@@ -402,10 +422,10 @@ static PyType_Spec specifier_spec = {
 
 /* ---- the specifiers of a text ---- */
 
-static PyObject *specifier_of_span(State *state, const Span *span, PyObject *whole, const Text *view)
+static PyObject *specifier_of_span(State *state, const Span *span, const Text *view)
 {
     PyObject *one = (PyObject *)new_judge(state, state->specifier_class);
-    if (one != NULL && !give_span((Specifier *)one, span, whole, view)) Py_CLEAR(one);
+    if (one != NULL && !give_span((Specifier *)one, span, view)) Py_CLEAR(one);
     return one;
 }
 
@@ -421,7 +441,7 @@ PyObject *specifiers_of_text(State *state, PyObject *text)
     else
         raise_refusal(state, code, text, "specifier");
     for (size_t place = 0; items != NULL && place < spans.count; place++) {
-        PyObject *item = specifier_of_span(state, &spans.each[place], text, &view);
+        PyObject *item = specifier_of_span(state, &spans.each[place], &view);
         if (item == NULL || PyTuple_SetItem(items, (Py_ssize_t)place, item) < 0) Py_CLEAR(items);
     }
     spans_done(&spans);

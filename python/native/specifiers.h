@@ -36,8 +36,8 @@ typedef struct {
     Judge judge;
     /* the operator and the operand without white space: NULL until the specifier is read */
     PyObject *operator, *version;
-    /* both as one text, and the operand in normal form: NULL until they were asked for */
-    PyObject *text, *normal;
+    /* the operand in normal form: NULL until it was asked for */
+    PyObject *normal;
 } Specifier;
 
 /* A set has a text or its specifiers, or both; neither until it is read. Where sets were joined a part is a pair of what it
@@ -78,6 +78,18 @@ bool is_exact_sign(const Span *span);
 /* The specifiers of a set's text: a tuple. */
 PyObject *specifiers_of_text(State *state, PyObject *text);
 PyObject *specifier_text(PyObject *self);
+
+/* The operator and the operand, which are held; or an exception where there are none. */
+typedef struct {
+    PyObject *operator, *version;
+} Pair;
+
+bool take_pair(const Specifier *specifier, Pair *pair);
+void let_pair_go(Pair *pair);
+/* Both as one text. */
+PyObject *text_of_pair(const Pair *pair);
+/* Whether the pair is the specifier's still: what else ran meanwhile may have read another text. */
+bool is_pair_of(const Pair *pair, const Specifier *specifier);
 /* What equal ones have in common: the operator, and the operand in normal form. */
 PyObject *specifier_canonical(PyObject *self, PyObject *nothing);
 /* Whether pre-releases are asked for: by what was said, or by the operand. -1 with an exception. */

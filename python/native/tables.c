@@ -342,8 +342,7 @@ static bool is_plain_class(PyObject *kind)
     return type == &PyBaseObject_Type && kind != (PyObject *)type;
 }
 
-/* An object of a class that is made in Python, without its __init__. */
-static PyObject *new_of(PyObject *kind)
+PyObject *new_of(PyObject *kind)
 {
     newfunc make = is_plain_class(kind) ? (newfunc)PyType_GetSlot((PyTypeObject *)kind, Py_tp_new) : NULL;
     if (make == NULL) {

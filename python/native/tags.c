@@ -10,8 +10,8 @@ typedef struct {
     /* the pieces with dashes between, an exact str, and its hash */
     PyObject *text;
     Py_hash_t hash;
-    /* a tuple of three exact str: NULL until it was asked for, where the tag was made of the text */
-    PyObject *pieces;
+    /* exact str: NULL until they were asked for, where the tag was made of the text */
+    PyObject *pieces[PIECES];
     /* whether it is still to get its parts, by its __init__ */
     bool is_blank;
 } Tag;
@@ -77,34 +77,36 @@ static PyObject *lower(PyObject *object)
     return small;
 }
 
-/* The tuple of three texts in lower case. */
-static PyObject *lower_pieces(PyObject *const *given)
+static void let_pieces_go(PyObject **pieces, int count)
 {
-    PyObject *pieces[PIECES], *tuple = NULL;
+    while (count > 0) Py_DECREF(pieces[--count]);
+}
+
+/* Three texts in lower case: false with an exception. */
+static bool lower_pieces(PyObject *const *given, PyObject **pieces)
+{
     int count = 0;
     while (count < PIECES && (pieces[count] = lower(given[count])) != NULL) count++;
-    if (count == PIECES) tuple = PyTuple_Pack(PIECES, pieces[0], pieces[1], pieces[2]);
-    while (count > 0) Py_DECREF(pieces[--count]);
-    return tuple;
+    if (count < PIECES) let_pieces_go(pieces, count);
+    return count == PIECES;
 }
 
 /* ---- making ---- */
 
-/* A tag of its text, which is in lower case, and of its pieces where they are known; it takes the references over. Python
- * mixes the hash of a text with a secret: who chooses tags can't make them fall together. */
-static PyObject *made_tag(State *state, PyTypeObject *type, PyObject *text, PyObject *pieces)
+/* A tag of its text, which is in lower case, whose reference it takes over, and of its pieces, or NULL where they aren't known.
+ * Python mixes the hash of a text with a secret: who chooses tags can't make them fall together. */
+static PyObject *made_tag(State *state, PyTypeObject *type, PyObject *text, PyObject *const *pieces)
 {
     Py_hash_t hash = text == NULL ? -1 : short_hash(text);
     Tag *tag = hash == -1 ? NULL : (Tag *)new_object_of(state, type, &state->spare_tags, sizeof(Tag));
     if (tag == NULL) {
         Py_XDECREF(text);
-        Py_XDECREF(pieces);
         return NULL;
     }
     tag->text = text;
     tag->hash = hash;
-    tag->pieces = pieces;
     tag->is_blank = false;
+    for (int index = 0; pieces != NULL && index < PIECES; index++) tag->pieces[index] = hold(pieces[index]);
     return (PyObject *)tag;
 }
 
@@ -118,17 +120,17 @@ static bool make_small(uint8_t *piece, size_t length)
     return true;
 }
 
-/* The text of three exact str that are short, in lower case; NULL, without an exception, of others. `is_given` is whether they
- * were in lower case already; where they weren't, the dashes of the text are those between them alone. */
-static PyObject *small_text(PyObject *tuple, bool *is_given)
+/* The text of three exact str of a tuple that are short, in lower case; NULL, without an exception, of others. `is_given` is
+ * whether they were in lower case already; where they weren't, the dashes of the text are those between them alone. */
+static PyObject *small_text(PyObject *tuple, PyObject **given, bool *is_given)
 {
     uint8_t near[RESULT_ROOM];
     size_t written = 0, begins[PIECES], lengths[PIECES];
     *is_given = true;
     for (int index = 0; index < PIECES; index++) {
         Text text;
-        PyObject *object = PyTuple_GetItem(tuple, index);
-        if (!PyUnicode_CheckExact(object) || !text_of(object, &text)) return NULL;
+        given[index] = PyTuple_GetItem(tuple, index);
+        if (!PyUnicode_CheckExact(given[index]) || !text_of(given[index], &text)) return NULL;
         if (index > 0) near[written++] = '-';
         bool has_room = text.length < RESULT_ROOM - written;
         *is_given = has_room && copy_small(near + written, text.bytes, text.length) && *is_given;
@@ -160,11 +162,11 @@ static PyObject *joined(const Text *parts)
     return result;
 }
 
-static PyObject *joined_pieces(PyObject *pieces)
+static PyObject *joined_pieces(PyObject *const *pieces)
 {
     Text parts[PIECES];
     int count = 0;
-    while (count < PIECES && text_of(PyTuple_GetItem(pieces, count), &parts[count])) count++;
+    while (count < PIECES && text_of(pieces[count], &parts[count])) count++;
     PyObject *text = count == PIECES ? joined(parts) : NULL;
     while (count > 0) text_done(&parts[--count]);
     return text;
@@ -174,15 +176,18 @@ static PyObject *joined_pieces(PyObject *pieces)
 static PyObject *tag_of_call(State *state, PyTypeObject *type, PyObject *arguments, PyObject *named)
 {
     static char *words[] = {"interpreter", "abi", "platform", NULL};
-    PyObject *taken[MOST_TAKEN];
+    PyObject *taken[MOST_TAKEN], *pieces[PIECES];
     bool is_given, are_three = named == NULL && PyTuple_CheckExact(arguments) && PyTuple_Size(arguments) == PIECES;
-    PyObject *text = are_three ? small_text(arguments, &is_given) : NULL;
-    /* the tuple of the call becomes that of the pieces; others are cut from the text */
-    if (text != NULL) return made_tag(state, type, text, is_given ? hold(arguments) : NULL);
+    PyObject *text = are_three ? small_text(arguments, pieces, &is_given) : NULL;
+    /* the arguments of the call, which holds them, become the pieces; others are cut from the text */
+    if (text != NULL) return made_tag(state, type, text, is_given ? pieces : NULL);
     if (PyErr_Occurred() || !take_arguments(arguments, named, "OOO:Tag", words, taken)) return NULL;
-    PyObject *pieces = lower_pieces(taken);
+    bool is_good = lower_pieces(taken, pieces);
     let_arguments_go(taken);
-    return pieces == NULL ? NULL : made_tag(state, type, joined_pieces(pieces), pieces);
+    if (!is_good) return NULL;
+    PyObject *tag = made_tag(state, type, joined_pieces(pieces), pieces);
+    let_pieces_go(pieces, PIECES);
+    return tag;
 }
 
 /* A tag that is blank gets its parts; others have them from when they were made. */
@@ -192,13 +197,16 @@ static int tag_init(PyObject *self, PyObject *arguments, PyObject *named)
     if (!tag->is_blank) return 0;
     Tag *made = (Tag *)tag_of_call(tag->state, tag->state->tag, arguments, named);
     if (made == NULL) return -1;
-    PyObject *text = tag->text, *pieces = tag->pieces;
+    PyObject *text = tag->text;
     tag->text = made->text;
     tag->hash = made->hash;
-    tag->pieces = made->pieces;
     tag->is_blank = false;
     made->text = text;
-    made->pieces = pieces;
+    for (int index = 0; index < PIECES; index++) {
+        PyObject *piece = tag->pieces[index];
+        tag->pieces[index] = made->pieces[index];
+        made->pieces[index] = piece;
+    }
     Py_DECREF((PyObject *)made);
     return 0;
 }
@@ -221,46 +229,45 @@ static void tag_dealloc(PyObject *self)
 {
     Tag *tag = (Tag *)self;
     PyObject_GC_UnTrack(self);
-    Py_CLEAR(tag->pieces);
+    for (int index = 0; index < PIECES; index++) Py_CLEAR(tag->pieces[index]);
     Py_CLEAR(tag->text);
     leave_object(self, &tag->state->spare_tags);
 }
 
 /* ---- what is asked of a tag ---- */
 
-/* The pieces of a text, which has a dash behind each but the last. */
-static PyObject *cut_pieces(PyObject *text)
+/* Cuts a text into its pieces, which has a dash behind each but the last: false with an exception. */
+static bool cut_pieces(PyObject *text, PyObject **pieces)
 {
     Text view, piece;
-    PyObject *pieces[PIECES], *tuple = NULL;
     int count = 0;
-    if (!text_of(text, &view)) return NULL;
+    if (!text_of(text, &view)) return false;
     Text rest = view;
     for (; count < PIECES; count++) {
         cut_text(&rest, '-', &piece);
         if ((pieces[count] = str_of(piece.bytes, piece.length)) == NULL) break;
     }
     text_done(&view);
-    if (count == PIECES) tuple = PyTuple_Pack(PIECES, pieces[0], pieces[1], pieces[2]);
-    while (count > 0) Py_DECREF(pieces[--count]);
-    return tuple;
+    if (count < PIECES) let_pieces_go(pieces, count);
+    return count == PIECES;
 }
 
-/* A borrowed reference. */
-static PyObject *tag_pieces(Tag *tag)
+/* Whether the tag has its pieces, from now on: false with an exception. */
+static bool has_pieces(Tag *tag)
 {
-    if (tag->pieces == NULL) {
-        PyObject *text = hold(tag->text);
-        PyObject *pieces = cut_pieces(text);
-        let_go(text);
-        if (pieces == NULL) return NULL;
+    PyObject *pieces[PIECES];
+    if (tag->pieces[0] != NULL) return true;
+    PyObject *text = hold(tag->text);
+    bool is_good = cut_pieces(text, pieces);
+    let_go(text);
+    for (int index = 0; is_good && index < PIECES; index++) {
         /* a finalizer that ran meanwhile may have asked for them too */
-        if (tag->pieces == NULL)
-            tag->pieces = pieces;
+        if (tag->pieces[index] == NULL)
+            tag->pieces[index] = pieces[index];
         else
-            Py_DECREF(pieces);
+            Py_DECREF(pieces[index]);
     }
-    return tag->pieces;
+    return is_good;
 }
 
 /* Tags of other texts differ; those of one text may too, as a piece may have a dash where it was given alone. */
@@ -270,11 +277,10 @@ static int are_equal(Tag *left, Tag *right)
     if (left->hash != right->hash) return 0;
     int equal = left->text == right->text ? 1 : PyObject_RichCompareBool(left->text, right->text, Py_EQ);
     if (equal <= 0) return equal;
-    PyObject *pieces[] = {hold(tag_pieces(left)), hold(tag_pieces(right))};
-    equal = pieces[0] == NULL || pieces[1] == NULL ? -1 : PyObject_RichCompareBool(pieces[0], pieces[1], Py_EQ);
-    let_go(pieces[0]);
-    let_go(pieces[1]);
-    return equal;
+    if (!has_pieces(left) || !has_pieces(right)) return -1;
+    for (int index = 0; equal > 0 && index < PIECES; index++)
+        equal = left->pieces[index] == right->pieces[index] ? 1 : PyUnicode_Compare(left->pieces[index], right->pieces[index]) == 0;
+    return PyErr_Occurred() ? -1 : equal;
 }
 
 static PyObject *tag_compare(PyObject *left, PyObject *right, int how)
@@ -307,10 +313,10 @@ static PyObject *tag_repr(PyObject *self)
 
 static PyObject *get_piece(PyObject *self, void *place)
 {
-    PyObject *pieces = tag_pieces((Tag *)self);
-    PyObject *piece = pieces == NULL ? NULL : PyTuple_GetItem(pieces, (Py_ssize_t)(intptr_t)place);
-    Py_XINCREF(piece);
-    return piece;
+    PyObject *const *piece = &((Tag *)self)->pieces[(intptr_t)place];
+    if (*piece == NULL && !has_pieces((Tag *)self)) return NULL;
+    Py_INCREF(*piece);
+    return *piece;
 }
 
 /* A tag can't be changed: a copy is the tag itself. */
@@ -321,7 +327,20 @@ static PyObject *tag_copy(PyObject *self, PyObject *memo)
     return self;
 }
 
+/* What a pickle has, which asks this first: the arguments of the class, of which the Python layer tells of one's own. */
+static PyObject *tag_reduce_ex(PyObject *self, PyObject *protocol)
+{
+    Tag *tag = (Tag *)self;
+    if (Py_TYPE(self) != tag->state->tag_class) return usual_reduce(self, protocol);
+    if (!has_pieces(tag)) return NULL;
+    PyObject *arguments = PyTuple_Pack(PIECES, tag->pieces[0], tag->pieces[1], tag->pieces[2]);
+    PyObject *reduced = arguments == NULL ? NULL : PyTuple_Pack(2, (PyObject *)Py_TYPE(self), arguments);
+    Py_XDECREF(arguments);
+    return reduced;
+}
+
 static PyMethodDef tag_methods[] = {
+    {"__reduce_ex__", tag_reduce_ex, METH_O, PyDoc_STR("What a pickle has.")},
     {"__copy__", tag_copy, METH_NOARGS, PyDoc_STR("The tag itself.")},
     {"__deepcopy__", tag_copy, METH_O, PyDoc_STR("The tag itself.")},
     {NULL, NULL, 0, NULL},
@@ -436,29 +455,68 @@ static PyObject *ordered_part(PyObject *part)
     return ordered;
 }
 
+/* Whether one text comes before another, or is equal to it: in the order of their bytes, which is that of their letters. */
+static bool is_no_later(const Text *one, const Text *other)
+{
+    int order = memcmp(one->bytes, other->bytes, one->length < other->length ? one->length : other->length);
+    return order < 0 || (order == 0 && one->length <= other->length);
+}
+
+/* Whether the pieces of a part are in order. */
+static bool is_in_order(const Text *part)
+{
+    Text before = {part->bytes, 0, NULL}, piece = *part;
+    const uint8_t *end = part->bytes + part->length, *dot;
+    do {
+        dot = memchr(piece.bytes, '.', (size_t)(end - piece.bytes));
+        piece.length = (size_t)((dot == NULL ? end : dot) - piece.bytes);
+        if (!is_no_later(&before, &piece)) return false;
+        before = piece;
+        piece.bytes += piece.length + 1;
+    } while (dot != NULL);
+    return true;
+}
+
 int are_in_order(PyObject *parts, Py_ssize_t from, PyObject **part, PyObject **ordered)
 {
     for (Py_ssize_t index = from < 0 ? 0 : from; index < PyList_Size(parts); index++) {
+        Text view;
         *part = PyList_GetItem(parts, index);
-        if ((*ordered = ordered_part(*part)) == NULL) return -1;
-        if (*ordered != *part && PyUnicode_Compare(*ordered, *part) != 0) return 0;
-        Py_DECREF(*ordered);
+        if (!text_of(*part, &view)) return -1;
+        bool is_good = is_in_order(&view);
+        text_done(&view);
+        if (is_good) continue;
+        *ordered = ordered_part(*part);
+        return *ordered == NULL ? -1 : 0;
     }
     return 1;
+}
+
+/* Finds the first part of a tag whose pieces aren't in order: false where there is none, or the text is no tag. */
+static bool find_unordered(const Text *tag, Text *part)
+{
+    int dashes = 0;
+    for (size_t place = 0; place < tag->length; place++) dashes += tag->bytes[place] == '-';
+    Text rest = *tag;
+    for (int index = 0; dashes == PIECES - 1 && index < PIECES; index++) {
+        cut_text(&rest, '-', part);
+        if (!is_in_order(part)) return true;
+    }
+    return false;
 }
 
 /* Whether the pieces of each part of a tag are in order, or it is none; else an exception says which aren't. */
 static bool has_order(State *state, PyObject *tag)
 {
-    PyObject *dash = PyUnicode_FromString("-"), *parts = dash == NULL ? NULL : PyUnicode_Split(tag, dash, -1), *part, *ordered;
-    int told = parts == NULL ? -1 : PyList_Size(parts) == PIECES ? are_in_order(parts, 0, &part, &ordered) : 1;
-    if (told == 0) {
-        raise_unlike(state, PYLOCK_TAG_PARTS, part, ordered, "order");
-        Py_DECREF(ordered);
-    }
-    Py_XDECREF(dash);
-    Py_XDECREF(parts);
-    return told == 1;
+    Text view, found;
+    if (!text_of(tag, &view)) return false;
+    bool is_good = !find_unordered(&view, &found);
+    PyObject *part = is_good ? NULL : str_of(found.bytes, found.length), *ordered = part == NULL ? NULL : ordered_part(part);
+    text_done(&view);
+    if (ordered != NULL) raise_unlike(state, PYLOCK_TAG_PARTS, part, ordered, "order");
+    Py_XDECREF(ordered);
+    Py_XDECREF(part);
+    return is_good;
 }
 
 static bool is_ascii(PyObject *text)

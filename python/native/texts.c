@@ -220,20 +220,21 @@ static bool raise_common(PyObject *maker, int32_t code)
     return true;
 }
 
-/* The places of what an exception is made of: its class, its attributes, and what its message has before the text and behind
- * it. */
-enum { ERROR, ATTRIBUTES, BEFORE, BEHIND, TOLD };
+/* The places of what an exception is made of: its class, its attributes, what its message has before the text and behind it, and
+ * the name of the attribute that keeps the text, or None. */
+enum { ERROR, ATTRIBUTES, BEFORE, BEHIND, SOURCE, TOLD };
 
 static bool is_made_of(PyObject *told)
 {
     if (!PyTuple_CheckExact(told) || PyTuple_Size(told) != TOLD) return false;
     return PyExceptionClass_Check(PyTuple_GetItem(told, ERROR)) && PyDict_CheckExact(PyTuple_GetItem(told, ATTRIBUTES)) &&
-           PyUnicode_CheckExact(PyTuple_GetItem(told, BEFORE)) && PyUnicode_CheckExact(PyTuple_GetItem(told, BEHIND));
+           PyUnicode_CheckExact(PyTuple_GetItem(told, BEFORE)) && PyUnicode_CheckExact(PyTuple_GetItem(told, BEHIND)) &&
+           (PyUnicode_CheckExact(PyTuple_GetItem(told, SOURCE)) || PyTuple_GetItem(told, SOURCE) == Py_None);
 }
 
 static bool is_kind(const char *kind, const char *word)
 {
-    return strlen(kind) == strlen(word) && memcmp(kind, word, strlen(word)) == 0;
+    return kind[0] == word[0] && strlen(kind) == strlen(word) && memcmp(kind, word, strlen(word)) == 0;
 }
 
 /* Where the refusal of a code is kept: it has one, but another one of these kinds of texts. */
@@ -243,16 +244,20 @@ static PyObject **place_of_refusal(State *state, int32_t code, const char *kind)
     return &state->refusals[(size_t)(is_own ? code + MOST_REFUSALS / 2 : code) % MOST_REFUSALS];
 }
 
-/* What the Python layer tells of a code: what the exception is made of, which is kept, or the exception itself. */
+/* What the exception of a code is made of, which the Python layer tells and is kept; NULL where that is the exception itself, which
+ * is raised. */
 static PyObject *told_refusal(State *state, int32_t code, PyObject *text, const char *kind)
 {
     PyObject **place = place_of_refusal(state, code, kind);
     if (*place != NULL) return hold(*place);
     /* what it runs may give the module another one */
     PyObject *refuse = hold(state->refuse), *told = PyObject_CallFunction(refuse, "iOs", (int)code, text, kind);
-    if (told != NULL && is_made_of(told) && refuse == state->refuse && *place == NULL) *place = hold(told);
+    bool is_kept = told != NULL && is_made_of(told);
+    if (is_kept && refuse == state->refuse && *place == NULL) *place = hold(told);
     let_go(refuse);
-    return told;
+    if (is_kept) return told;
+    raise_made(told);
+    return NULL;
 }
 
 enum { LONGEST_SHOWN = 200 };
@@ -267,30 +272,28 @@ static PyObject *shown_text(PyObject *text)
     return shown;
 }
 
-/* Keeps the text that is refused, where the attributes have a place for it: `str` of the exception looks at it. */
-static int keep_source(PyObject *attributes, PyObject *text)
+/* An exception of what was told, with a message, without the `__init__` of its class, which does no more. The text that is
+ * refused is kept where `str` of the exception looks at it. */
+static PyObject *new_refusal(PyObject *told, PyObject *message, PyObject *text)
 {
-    return PyDict_GetItemString(attributes, "source") == NULL ? 0 : PyDict_SetItemString(attributes, "source", text);
-}
-
-/* An exception of a class of the Python layer with a message and attributes, without its `__init__`, which does no more. */
-static PyObject *new_refusal(PyObject *error, PyObject *attributes, PyObject *message, PyObject *text)
-{
-    newfunc make = (newfunc)PyType_GetSlot((PyTypeObject *)error, Py_tp_new);
-    PyObject *arguments = make == NULL ? NULL : PyTuple_Pack(1, message), *own = arguments == NULL ? NULL : PyDict_Copy(attributes);
-    PyObject *exception = own == NULL ? NULL : make((PyTypeObject *)error, arguments, NULL);
-    if (exception != NULL && (keep_source(own, text) < 0 || PyObject_GenericSetDict(exception, own, NULL) < 0)) Py_CLEAR(exception);
+    PyTypeObject *error = (PyTypeObject *)PyTuple_GetItem(told, ERROR);
+    newfunc make = (newfunc)PyType_GetSlot(error, Py_tp_new);
+    PyObject *arguments = make == NULL ? NULL : PyTuple_Pack(1, message), *source = PyTuple_GetItem(told, SOURCE);
+    PyObject *own = arguments == NULL ? NULL : PyDict_Copy(PyTuple_GetItem(told, ATTRIBUTES));
+    PyObject *exception = own == NULL ? NULL : make(error, arguments, NULL);
+    bool is_good = exception != NULL && (source == Py_None || PyDict_SetItem(own, source, text) == 0);
+    if (!is_good || PyObject_GenericSetDict(exception, own, NULL) < 0) Py_CLEAR(exception);
     Py_XDECREF(arguments);
     Py_XDECREF(own);
     return exception;
 }
 
-/* Puts a text behind others: false where there is no room, or with an exception. */
+/* Puts a text of ASCII behind others: false where there is no room, of another text, or with an exception. */
 static bool add_text(Result *message, PyObject *text)
 {
     Text view;
     if (!text_of(text, &view)) return false;
-    bool has_room = view.length <= RESULT_ROOM - message->length;
+    bool has_room = view.length <= RESULT_ROOM - message->length && view.length == (size_t)PyUnicode_GetLength(text);
     if (has_room) memcpy(message->near + message->length, view.bytes, view.length);
     message->length += has_room ? view.length : 0;
     text_done(&view);
@@ -321,7 +324,7 @@ static PyObject *message_of(PyObject *before, PyObject *shown, PyObject *behind,
     Result message;
     message.length = 0;
     if (add_text(&message, before) && add_quoted(&message, shown) && add_text(&message, behind) && (other == NULL || add_quoted(&message, other)))
-        return str_of(message.near, message.length);
+        return PyUnicode_DecodeLatin1((const char *)message.near, (Py_ssize_t)message.length, NULL);
     if (PyErr_Occurred()) return NULL;
     return other == NULL ? PyUnicode_FromFormat("%U%R%U", before, shown, behind)
                          : PyUnicode_FromFormat("%U%R%U%R", before, shown, behind, other);
@@ -331,7 +334,7 @@ static PyObject *refusal_of(PyObject *told, PyObject *text, PyObject *other)
 {
     PyObject *shown = shown_text(text);
     PyObject *message = shown == NULL ? NULL : message_of(PyTuple_GetItem(told, BEFORE), shown, PyTuple_GetItem(told, BEHIND), other);
-    PyObject *exception = message == NULL ? NULL : new_refusal(PyTuple_GetItem(told, ERROR), PyTuple_GetItem(told, ATTRIBUTES), message, text);
+    PyObject *exception = message == NULL ? NULL : new_refusal(told, message, text);
     Py_XDECREF(shown);
     Py_XDECREF(message);
     return exception;
@@ -341,10 +344,7 @@ void raise_unlike(State *state, int32_t code, PyObject *text, PyObject *other, c
 {
     if (raise_common(state->refuse, code)) return;
     PyObject *told = told_refusal(state, code, text, kind);
-    if (told == NULL || !is_made_of(told)) {
-        raise_made(told);
-        return;
-    }
+    if (told == NULL) return;
     raise_made(refusal_of(told, text, other));
     Py_DECREF(told);
 }

@@ -107,7 +107,7 @@ static inline bool has_key(Version *version)
 /* ---- the parts ---- */
 
 /* of a release of so many numbers there is room here */
-enum { RELEASE_ROOM = 16, WORDS_OF_NUMBER = 2, MOST_DIGITS = 9 };
+enum { RELEASE_ROOM = 16, WORDS_OF_NUMBER = 2 };
 
 static PyObject *number_of(uint64_t low, uint64_t high)
 {
@@ -191,40 +191,6 @@ static bool made_parts(const pylock_version_parts *read, const uint64_t *words, 
     return false;
 }
 
-/* Reads the numbers of a text of a few short ones with dots between, as most texts are, and gives how many they are; else 0. */
-static Py_ssize_t plain_numbers(const Text *text, long *numbers)
-{
-    const uint8_t *at = text->bytes, *end = at + text->length;
-    for (Py_ssize_t count = 0; count < RELEASE_ROOM; at++) {
-        const uint8_t *begin = at;
-        long number = 0;
-        for (; at < end && *at >= '0' && *at <= '9'; at++) {
-            if (at - begin == MOST_DIGITS) return 0;
-            number = 10 * number + (*at - '0');
-        }
-        if (at == begin) return 0;
-        numbers[count++] = number;
-        if (at == end) return count;
-        if (*at != '.') return 0;
-    }
-    return 0;
-}
-
-/* The parts of a text of numbers alone: what the library has as these where it takes the text, which the tests compare, without
- * the time that a call of it takes. False with an exception. */
-static bool plain_parts(const long *numbers, Py_ssize_t count, Parts *parts)
-{
-    PyObject *release = PyTuple_New(count);
-    for (Py_ssize_t index = 0; release != NULL && index < count; index++) {
-        PyObject *number = PyLong_FromLong(numbers[index]);
-        if (number == NULL || PyTuple_SetItem(release, index, number) < 0) Py_CLEAR(release);
-    }
-    if (release == NULL) return false;
-    /* a small number is there always */
-    *parts = (Parts){PyLong_FromLong(0), release, hold(Py_None), hold(Py_None), hold(Py_None), hold(Py_None), 0};
-    return true;
-}
-
 /* What the library tells of a text in one call. */
 typedef struct {
     uint8_t *key;
@@ -297,30 +263,14 @@ static void set_found(Version *version, PyObject *text, const pylock_version_kin
     set_parts(version, parts, kind->is_prerelease);
 }
 
-/* Finds what a version is by a text of these numbers alone: false with its parts where the library doesn't take it. */
-static bool find_plain(Version *version, PyObject *text, const Text *view, const long *numbers, Py_ssize_t count, int32_t *code)
-{
-    Parts parts = {.epoch = NULL};
-    pylock_version_kind kind = {false};
-    *code = PYLOCK_OK;
-    if (!plain_parts(numbers, count, &parts)) return false;
-    /* finalizers may have run meanwhile; from here on nothing does but the library */
-    if (version->text == NULL && (*code = find_key(version, view, &kind)) == PYLOCK_OK) {
-        set_found(version, text, &kind, &parts);
-        return true;
-    }
-    let_parts_go(&parts);
-    return false;
-}
-
-/* The same of any text. */
+/* Finds what a version is by its text: false with the code of a refusal, or with an exception. */
 static bool find_whole(Version *version, PyObject *text, const Text *view, int32_t *code)
 {
     Whole whole;
     Parts parts = {.epoch = NULL};
     *code = read_whole(view, &whole);
     bool is_good = *code == PYLOCK_OK && made_parts(&whole.parts, whole.words, whole.count, view, &parts);
-    /* as above */
+    /* finalizers may have run meanwhile; from here on nothing does but the library */
     is_good = is_good && version->text == NULL;
     if (is_good && !keep_key(version, whole.key, whole.key_length)) {
         is_good = false;
@@ -338,10 +288,7 @@ static bool find_whole(Version *version, PyObject *text, const Text *view, int32
 static bool set_text(Version *version, PyObject *text, const Text *view, PyObject *given)
 {
     int32_t code;
-    long numbers[RELEASE_ROOM];
-    Py_ssize_t count = plain_numbers(view, numbers);
-    bool is_good = count > 0 ? find_plain(version, text, view, numbers, count, &code) : find_whole(version, text, view, &code);
-    if (is_good) return true;
+    if (find_whole(version, text, view, &code)) return true;
     if (version->text != NULL)
         no_change();
     else if (code != PYLOCK_OK)
@@ -368,17 +315,18 @@ PyObject *version_of_text(State *state, PyTypeObject *type, PyObject *text)
     return (PyObject *)version;
 }
 
-/* Gives a new version a normal form of numbers and dots, without its key: false where the text is another, or with an
- * exception. */
-static bool set_plain_text(Version *version, PyObject *text, const Text *view)
+/* Gives a new version a normal form and its parts, without its key: false where its release is long, or with an exception. */
+static bool set_normal_text(Version *version, PyObject *text, const Text *view)
 {
-    Parts parts;
-    long numbers[RELEASE_ROOM];
-    Py_ssize_t count = plain_numbers(view, numbers);
-    if (count == 0 || !plain_parts(numbers, count, &parts)) return false;
+    pylock_version_parts read;
+    uint64_t words[RELEASE_ROOM * WORDS_OF_NUMBER];
+    size_t count = 0;
+    Parts parts = {.epoch = NULL};
+    int32_t code = pylock_version_split(view->bytes, view->length, &read, words, RELEASE_ROOM * WORDS_OF_NUMBER, &count);
+    if (code != PYLOCK_OK || !made_parts(&read, words, count, view, &parts)) return false;
     version->text = hold(text);
     version->is_normal = true;
-    set_parts(version, &parts, false);
+    set_parts(version, &parts, read.pre != 0 || read.has_dev);
     return true;
 }
 
@@ -387,7 +335,7 @@ PyObject *version_of_normal(State *state, PyObject *text)
     Text view;
     if (!text_of(text, &view)) return NULL;
     Version *version = empty_version(state, state->version_class);
-    if (version != NULL && !set_plain_text(version, text, &view) && (PyErr_Occurred() || !set_text(version, text, &view, text)))
+    if (version != NULL && !set_normal_text(version, text, &view) && (PyErr_Occurred() || !set_text(version, text, &view, text)))
         Py_CLEAR(version);
     text_done(&view);
     return (PyObject *)version;
@@ -783,6 +731,15 @@ static PyObject *from_parts(PyObject *self, PyObject *const *arguments, Py_ssize
 }
 TAKES_NAMES(from_parts)
 
+/* Whether as many parts are there as the version has, so that they may be its own. */
+static bool has_such_parts(const Version *version, PyObject *const *parts)
+{
+    PyObject *its[PARTS] = {version->epoch, version->release, version->pre, version->post, version->dev, version->local};
+    bool has = true;
+    for (int part = 0; part < PARTS; part++) has = has && (its[part] == Py_None) == (parts[part] == Py_None);
+    return has;
+}
+
 /* Whether a text that was written is the version's normal form: -1 with an exception. */
 static int is_its_text(PyObject *self, const Made *made)
 {
@@ -807,7 +764,7 @@ static PyObject *version_replace(PyObject *self, PyObject *const *arguments, Py_
     PyObject *parts[PARTS] = {version->epoch, version->release, version->pre, version->post, version->dev, version->local};
     bool are_known = true, is_plain = Py_TYPE(self) == state->version_class && version->release != NULL && count == 0;
     if (is_plain && take_parts(arguments, names, parts, &are_known) && made_of_parts(parts, &made)) {
-        int is_same = is_its_text(self, &made);
+        int is_same = has_such_parts(version, parts) ? is_its_text(self, &made) : 0;
         if (is_same != 0) return is_same < 0 ? NULL : hold(self);
         PyObject *other = version_of_made(state, Py_TYPE(self), parts, &made, are_known);
         if (other != NULL || PyErr_Occurred()) return other;
@@ -823,6 +780,18 @@ static PyObject *version_copy(PyObject *self, PyObject *memo)
     return hold(self);
 }
 
+/* What a pickle has, which asks this first: the class and the text as it was given; the Python layer tells it of a class of
+ * one's own. */
+static PyObject *version_reduce_ex(PyObject *self, PyObject *protocol)
+{
+    PyTypeObject *type = Py_TYPE(self);
+    if (type != ((Version *)self)->state->version_class) return usual_reduce(self, protocol);
+    PyObject *text = version_text(self), *arguments = text == NULL ? NULL : PyTuple_Pack(1, text);
+    PyObject *reduced = arguments == NULL ? NULL : PyTuple_Pack(2, (PyObject *)type, arguments);
+    Py_XDECREF(arguments);
+    return reduced;
+}
+
 #define FROM_PARTS_TEXT                                                                                                  \
     "from_parts($type, /, *, epoch=0, release, pre=None, post=None, dev=None, local=None)\n--\n\n"                      \
     "The version of these parts, as the attributes of their names give them.\n\n"                                       \
@@ -833,6 +802,7 @@ static PyObject *version_copy(PyObject *self, PyObject *memo)
 static PyMethodDef version_methods[] = {
     {"__copy__", version_copy, METH_NOARGS, PyDoc_STR("The version itself.")},
     {"__deepcopy__", version_copy, METH_O, PyDoc_STR("The version itself.")},
+    {"__reduce_ex__", version_reduce_ex, METH_O, PyDoc_STR("What a pickle has.")},
     CALL_NAMED_AS("__replace__", version_replace, 0, REPLACE_TEXT),
     CALL_NAMED_AS("from_parts", from_parts, METH_CLASS, FROM_PARTS_TEXT),
     {NULL, NULL, 0, NULL},

@@ -30,13 +30,15 @@ class Refusal(ValueError):
     arguments, as a ValueError; its word is empty then.
     """
 
-    word: str
-    place: Place
+    word: str = ""
+    place: Place = None
 
     def __init__(self, *args: object, word: str = "", place: Place = None) -> None:
-        super().__init__(*args)
-        self.word = word
-        self.place = place
+        self.args = args
+        if word:
+            self.word = word
+        if place is not None:
+            self.place = place
 
 
 class Fault:

@@ -113,15 +113,13 @@ _KINDS: Dict[str, Type[Refusal]] = {
 }
 
 
-# what an exception is made of: its class, its attributes, and what its message has before the text and behind it
-_Told = Tuple[Type[Refusal], Dict[str, Any], str, str]
+# what an exception is made of: its class, its attributes, what its message has before the text and behind it, and the name of
+# the attribute that keeps the text, or None
+_Told = Tuple[Type[Refusal], Dict[str, Any], str, str, Optional[str]]
 
 
 def _told_as(error: Type[Refusal], word: str, before: str, behind: str) -> _Told:
-    attributes: Dict[str, Any] = {"word": word, "place": None}
-    if issubclass(error, PointingRefusal):
-        attributes["source"] = None
-    return error, attributes, before, behind
+    return error, {"word": word}, before, behind, "source" if issubclass(error, PointingRefusal) else None
 
 
 def _told(code: int, text: str, kind: str) -> Union[BaseException, _Told]:
@@ -151,11 +149,11 @@ def _refusal(code: int, text: str, kind: str) -> BaseException:
     told = _told(code, text, kind)
     if isinstance(told, BaseException):
         return told
-    error, attributes, before, behind = told
+    error, attributes, before, behind, source = told
     exception = error(before + _shown(text) + behind)
     vars(exception).update(attributes)
-    if "source" in attributes:
-        vars(exception)["source"] = text
+    if source is not None:
+        vars(exception)[source] = text
     return exception
 
 

@@ -1,7 +1,8 @@
 """The shape of a lock's table: where a table is wrong that the library refuses, and the table without what isn't judged.
 
 The library decides whether a lock is taken. Nothing here does: `fault_of` says where the first wrong key is, in the
-order in which `packaging` reads them, so that an error can name it; where it finds none, the library's words do.
+order in which `packaging` reads them, so that an error can name it; where it finds none, the library's words do. But a
+lock whose head isn't of texts needs no writing out to be refused: that is `fault_of_head`.
 """
 
 from __future__ import annotations
@@ -15,7 +16,7 @@ from .specifiers import SpecifierSet
 from .utils import canonicalize_name, is_normalized_name, parse_sdist_filename, parse_wheel_filename
 from .version import Version
 
-__all__ = ["Wrong", "fault_of", "file_name", "judged"]
+__all__ = ["Wrong", "fault_of", "fault_of_head", "file_name", "judged", "name_at"]
 
 
 class Wrong(Exception):
@@ -29,6 +30,13 @@ class Wrong(Exception):
 
 def _below(path: str, key: str) -> str:
     return "%s.%s" % (path, key) if path else key
+
+
+_MISSING = "it is missing"
+
+
+def _other_type(expected: str, value: Any) -> str:
+    return "expected %s, not %s" % (expected, type(value).__name__)
 
 
 def _listed(value: Any) -> bool:
@@ -59,7 +67,7 @@ class _Shape:
     def check_kind(self, value: Any, path: str) -> None:
         """Raises Wrong where the type is another."""
         if not self.is_kind(value):
-            raise Wrong(path, "expected %s, not %s" % (self.expected, type(value).__name__))
+            raise Wrong(path, _other_type(self.expected, value))
 
 
 class _Text(_Shape):
@@ -160,7 +168,7 @@ class _Table(_Mapping):
             if member is not None:
                 key.shape.check(member, _below(path, key.name))
             elif key.required:
-                raise Wrong(_below(path, key.name), "it is missing")
+                raise Wrong(_below(path, key.name), _MISSING)
         self.whole(value, path)
 
     def judged(self, value: Any) -> Any:
@@ -199,12 +207,15 @@ _TOOL = _Mapping()
 def file_name(table: Mapping[str, Any]) -> Optional[str]:
     """The file name of a wheel or an sdist (docs/FORMATS.md, "The lock file"), None where there is none."""
     name = table.get("name")
-    if name:
-        return str(name)
-    path = (table.get("path") or "").replace("\\", "/").rpartition("/")[2]
-    if path:
-        return str(path)
-    last = (table.get("url") or "").partition("#")[0].partition("?")[0].rpartition("/")[2]
+    return str(name) if name else name_at(table.get("path"), table.get("url"))
+
+
+def name_at(path: Optional[str], url: Optional[str]) -> Optional[str]:
+    """The file name at the end of a path, or else of a URL."""
+    last = (path or "").replace("\\", "/").rpartition("/")[2]
+    if last:
+        return str(last)
+    last = (url or "").partition("#")[0].partition("?")[0].rpartition("/")[2]
     return _decoded(last) or None
 
 
@@ -366,3 +377,22 @@ def fault_of(table: Mapping[str, Any]) -> Optional[Wrong]:
     except Wrong as wrong:
         return wrong
     return None
+
+
+# the keys of the head that are looked at between `lock-version` and `created-by`
+_BETWEEN = frozenset(("environments", "extras", "dependency-groups", "default-groups"))
+
+
+def fault_of_head(table: Mapping[str, Any]) -> Optional[Tuple[str, str]]:
+    """The key and the fault of `lock-version` or `created-by` where it is the first one that is wrong, and no text: whatever else
+    stands in such a lock, the library refuses it by this key.
+
+    >>> fault_of_head({"lock-version": "1.0", "created-by": 5})
+    ('created-by', 'expected str, not int')
+    """
+    key, value = "lock-version", table.get("lock-version")
+    if isinstance(value, str):
+        version, key, value = value, "created-by", table.get("created-by")
+        if isinstance(value, str) or version != "1.0" or not _BETWEEN.isdisjoint(table):
+            return None
+    return key, _MISSING if value is None else _other_type("str", value)

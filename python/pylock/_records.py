@@ -9,6 +9,8 @@ from __future__ import annotations
 import sys
 from typing import Any, Callable, Dict, List, Tuple
 
+from . import _native
+
 __all__ = ["dataclass", "fields_of"]
 
 
@@ -73,13 +75,13 @@ def _put(kind: Any, method: Any) -> None:
 
 
 def _methods(kind: Any, fields: Tuple[str, ...]) -> List[Any]:
-    """The special methods of a class with these fields."""
+    """The special methods of a class with these fields that Python has."""
     values = "".join("self.%s, " % name for name in fields)
-    form = ", ".join(name + "=%r" for name in fields)
+    form = ", ".join("%s={self.%s!r}" % (name, name) for name in fields)
     equal = " and ".join("self.%s == other.%s" % (name, name) for name in fields)
     sources = {
-        "__repr__": "def __repr__(self):\n return '%%s(%s)' %% (self.__class__.__qualname__, %s)" % (form, values),
-        "__eq__": "def __eq__(self, other):\n return %s if other.__class__ is self.__class__ else NotImplemented" % equal,
+        "__repr__": "def __repr__(self):\n return f'{self.__class__.__qualname__}(%s)'" % form,
+        "__eq__": "def __eq__(self, other):\n if self.__class__ is other.__class__:\n  return %s\n return NotImplemented" % equal,
         "__hash__": "def __hash__(self):\n return hash((%s))" % values,
     }
 
@@ -100,6 +102,24 @@ def _methods(kind: Any, fields: Tuple[str, ...]) -> List[Any]:
     return [*methods, __replace__] if sys.version_info >= (3, 13) else methods
 
 
+def _put_compiled(kind: Any, fields: Tuple[str, ...]) -> None:
+    """Gives the class the methods that the compiled part has: it does what `__init__` does, and copies."""
+    functions: Dict[str, Any] = {"__copy__": None, "__deepcopy__": None}
+    if "__init__" in vars(kind):
+        functions["__init__"] = kind.__init__
+    for name, function in functions.items():
+        defaults = getattr(function, "__kwdefaults__", None) or {}
+        setattr(kind, name, _native.field_method(name, kind, fields, function, defaults))
+
+
+def _make_room(kind: Any, fields: Tuple[str, ...]) -> None:
+    """Has the objects of the class keep their fields within themselves: Python learns the names of the first objects, which may
+    be some that have hardly a field."""
+    first = kind.__new__(kind)
+    for name in fields:
+        object.__setattr__(first, name, None)
+
+
 def dataclass(*, frozen: bool, init: bool) -> Callable[[Any], Any]:
     """The decorator, which is to be asked for a class that is frozen and has an `__init__` of its own."""
     assert frozen and not init
@@ -108,6 +128,8 @@ def dataclass(*, frozen: bool, init: bool) -> Callable[[Any], Any]:
         fields = fields_of(kind)
         for method in _methods(kind, fields):
             _put(kind, method)
+        _put_compiled(kind, fields)
+        _make_room(kind, fields)
         for name in ("__dataclass_fields__", "__dataclass_params__"):
             setattr(kind, name, _Asked(kind, name))
         if sys.version_info >= (3, 10):

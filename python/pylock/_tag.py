@@ -17,10 +17,8 @@ def _restore(self: Tag, state: Any) -> None:
 
 
 def _reduce(self: Tag) -> Tuple[Any, ...]:
-    """What a pickle has of a tag."""
+    """What a pickle has of a tag of one's own class."""
     pieces = self.interpreter, self.abi, self.platform
-    if type(self) is Tag:
-        return Tag, pieces
     from ._subclasses import reduced
 
     return reduced(self, Tag, pieces, pieces)

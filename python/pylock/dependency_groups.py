@@ -44,8 +44,8 @@ class CyclicDependencyGroup(ValueError):
         self.requested_group = requested_group
         self.group = group
         self.include_group = include_group
-        over = "itself" if group == canonicalize_name(include_group) else "%s, which includes it" % include_group
-        super().__init__("of dependency group %s: the group %s includes %s" % (requested_group, group, over))
+        over = "itself" if group == canonicalize_name(include_group) else f"{include_group}, which includes it"
+        self.args = (f"of dependency group {requested_group}: the group {group} includes {over}",)
 
     def __reduce__(self) -> Tuple[type, Tuple[str, str, str]]:
         # the arguments of the exception are its message
@@ -61,7 +61,10 @@ class DependencyGroupInclude:
         self.include_group = include_group
 
     def __repr__(self) -> str:
-        return "DependencyGroupInclude(%r)" % self.include_group
+        return f"DependencyGroupInclude({self.include_group!r})"
+
+    def __reduce__(self) -> Tuple[type, Tuple[str]]:
+        return type(self), (self.include_group,)
 
 
 _Item = Union[Requirement, DependencyGroupInclude]
@@ -72,14 +75,14 @@ def _by_name(groups: _Groups) -> Dict[str, Sequence[Union[str, Mapping[str, str]
     given: Dict[str, List[str]] = {}
     for name in groups:
         given.setdefault(canonicalize_name(name), []).append(name)
+    if len(given) == len(groups):
+        return {normal: groups[names[0]] for normal, names in given.items()}
     errors = [
         DuplicateGroupNames("dependency group %s has several names: %s" % (normal, ", ".join(names)))
         for normal, names in given.items()
         if len(names) > 1
     ]
-    if errors:
-        raise ExceptionGroup("several dependency groups have one name", errors)
-    return {normal: groups[names[0]] for normal, names in given.items()}
+    raise ExceptionGroup("several dependency groups have one name", errors)
 
 
 class DependencyGroupResolver:
@@ -150,14 +153,14 @@ class _Question:
         return items
 
     def _items_of(self, name: str, given: object) -> Tuple[_Item, ...]:
-        if isinstance(given, str) or not isinstance(given, Sequence):
+        if type(given) is not list and (isinstance(given, str) or not isinstance(given, Sequence)):
             self.errors.append(TypeError("dependency group %r is a %s and no list" % (name, type(given).__name__)))
             return ()
         items: List[_Item] = []
         for item in given:
             if isinstance(item, str):
                 items.append(Requirement(item))
-            elif not isinstance(item, Mapping):
+            elif type(item) is not dict and not isinstance(item, Mapping):
                 self.errors.append(TypeError("of dependency group %r an item is neither text nor table: %r" % (name, item)))
             elif tuple(item) != ("include-group",):
                 message = "of dependency group %r a table is no include: %r" % (name, item)

@@ -14,9 +14,8 @@ what is no mapping, no text or no URL is refused by `DirectUrlValidationError` a
 from __future__ import annotations
 
 from collections import abc
-from typing import TYPE_CHECKING, Any, Collection, Dict, Mapping, Optional, Type, TypeVar, Union
+from typing import TYPE_CHECKING, Any, Collection, Dict, Mapping, Optional, Tuple, Type, TypeVar, Union, cast
 
-from . import _native
 from ._records import fields_of
 
 if TYPE_CHECKING:
@@ -44,46 +43,64 @@ class DirectUrlValidationError(Exception):
     context: Optional[str] = None
 
     def __init__(self, cause: Union[str, Exception], *, context: Optional[str] = None) -> None:
-        super().__init__(cause)
-        self.message = str(cause)
-        self.context = context
-        if isinstance(cause, DirectUrlValidationError):
+        if type(cause) is str:
+            self.message = cause
+            self.context = context
+        elif isinstance(cause, DirectUrlValidationError):
             # the place of an inner error stands behind that of the table it is in
             self.message = cause.message
-            self.context = ".".join(filter(None, (context, cause.context))) or context
+            self.context = "%s.%s" % (context, cause.context) if context and cause.context else context or cause.context
+        else:
+            self.message = str(cause)
+            self.context = context
 
     def __str__(self) -> str:
         return "%s in %r" % (self.message, self.context) if self.context else self.message
 
 
-def _value(table: Mapping[str, Any], key: str, kind: type) -> Any:
+def _wrong(message: str, key: str, above: str) -> DirectUrlValidationError:
+    """The error of a key. Where there is one above, that of an inner table, its cause is the error of the inner table alone."""
+    error = DirectUrlValidationError(message, context=key)
+    if not above:
+        return error
+    outer = DirectUrlValidationError(error, context=above)
+    outer.__cause__ = outer.__context__ = error
+    return outer
+
+
+def _value(table: Mapping[str, Any], key: str, kind: type, above: str = "") -> Any:
     """The value of a key, None where there is none; it has to be of the kind."""
     value = table.get(key)
     if value is None or type(value) is kind or isinstance(value, kind):
         return value
-    raise DirectUrlValidationError("a %s is expected, not a %s" % (kind.__name__, type(value).__name__), context=key)
+    raise _wrong("a %s is expected, not a %s" % (kind.__name__, type(value).__name__), key, above)
 
 
-def _required(table: Mapping[str, Any], key: str) -> str:
+def _required(table: Mapping[str, Any], key: str, above: str = "") -> str:
     """The text of a key that has to be there."""
-    text: Optional[str] = _value(table, key, str)
+    text = table.get(key)
     if text is None:
-        raise DirectUrlValidationError("there is no value, and one is required", context=key)
-    return text
+        raise _wrong("there is no value, and one is required", key, above)
+    return text if type(text) is str else cast(str, _value(table, key, str, above))
 
 
 def _plain(fields: Any) -> Any:
     """The fields that aren't None, in a dictionary of their own; what is no such object is given back."""
-    for kind in (ArchiveInfo, VcsInfo, DirInfo):
-        if isinstance(fields, kind):
-            members = [(name, getattr(fields, name)) for name in _FIELDS[kind]]
-            return {name: _copied(member) for name, member in members if member is not None}
-    return _copied(fields)
+    kind: Any = type(fields)
+    if kind not in _FIELDS:
+        kind = next((each for each in kind.__mro__ if each in _FIELDS), None)
+    if kind is None:
+        return _copied(fields)
+    members = [(name, getattr(fields, name)) for name in _FIELDS[kind]]
+    return {name: _copied(member) for name, member in members if member is not None}
 
 
 def _copied(value: Any) -> Any:
     """The value, of a mapping a dictionary of its own."""
-    return dict(value) if isinstance(value, Mapping) else value
+    kind = type(value)
+    if kind is str or kind is bool:
+        return value
+    return dict(value) if kind is dict or isinstance(value, Mapping) else value
 
 
 def _without_secrets(url: str, safe: Collection[str]) -> str:
@@ -94,6 +111,8 @@ def _without_secrets(url: str, safe: Collection[str]) -> str:
         user, at, host = authority.rpartition("@")
         if host:
             return url if not at or _may_stay(user, safe) else "".join((scheme, mark, host, slash, path))
+        if scheme == "file" and path and path[0] != "/":
+            return url
     from urllib.parse import urlsplit, urlunsplit
 
     parts = urlsplit(url)
@@ -104,8 +123,9 @@ def _without_secrets(url: str, safe: Collection[str]) -> str:
 
 
 def _is_plain(scheme: str, rest: str) -> bool:
-    """Whether a URL has a scheme, an authority and a path alone, and `urlsplit` and `urlunsplit` give it as it is."""
-    if scheme not in ("https", "http") or not rest.isascii() or not rest.isprintable():
+    """Whether a URL has a scheme, an authority and a path alone, and `urlsplit` and `urlunsplit` give it as it is where there is
+    an authority, or of a file a path."""
+    if scheme not in ("https", "http", "file") or not rest.isascii() or not rest.isprintable():
         return False
     return not ("?" in rest or "#" in rest or "[" in rest or "]" in rest or " " in rest)
 
@@ -139,10 +159,9 @@ class VcsInfo:
 
     @classmethod
     def _of(cls, table: Mapping[str, Any]) -> VcsInfo:
-        vcs = _required(table, "vcs")
-        revision = _value(table, "requested_revision", str)
-        fields = {"vcs": vcs, "commit_id": _required(table, "commit_id"), "requested_revision": revision}
-        return _native.made(cls, _FIELDS[VcsInfo], fields)
+        vcs = _required(table, "vcs", "vcs_info")
+        revision = _value(table, "requested_revision", str, "vcs_info")
+        return cls(vcs=vcs, commit_id=_required(table, "commit_id", "vcs_info"), requested_revision=revision)
 
 
 @dataclass(frozen=True, init=False)
@@ -156,22 +175,22 @@ class ArchiveInfo:
 
     @classmethod
     def _of(cls, table: Mapping[str, Any]) -> ArchiveInfo:
-        hashes: Optional[Mapping[str, str]] = _value(table, "hashes", abc.Mapping)
-        if hashes is not None and not all(isinstance(value, str) for value in hashes.values()):
-            raise DirectUrlValidationError("a hash is expected to be a str", context="hashes")
+        hashes: Optional[Mapping[str, str]] = _value(table, "hashes", abc.Mapping, "archive_info")
+        if hashes is not None and not all([isinstance(value, str) for value in hashes.values()]):
+            raise _wrong("a hash is expected to be a str", "hashes", "archive_info")
         # `hash` is the older key: it may stand beside `hashes`, and has to be one of them then
-        legacy: Optional[str] = _value(table, "hash", str)
+        legacy: Optional[str] = _value(table, "hash", str, "archive_info")
         if legacy is None:
-            return _native.made(cls, _FIELDS[ArchiveInfo], {"hashes": hashes})
+            return cls(hashes=hashes)
         algorithm, equals, value = legacy.partition("=")
         if not equals:
-            raise DirectUrlValidationError("an algorithm, `=` and a hash are expected", context="hash")
+            raise _wrong("an algorithm, `=` and a hash are expected", "hash", "archive_info")
         if hashes is None:
             return cls(hashes={algorithm: value})
         if algorithm not in hashes:
-            raise DirectUrlValidationError("%r of the key `hash` is missing" % algorithm, context="hashes")
+            raise _wrong("%r of the key `hash` is missing" % algorithm, "hashes", "archive_info")
         if hashes[algorithm] != value:
-            raise DirectUrlValidationError("%r is another hash in the key `hashes`" % algorithm, context="hash")
+            raise _wrong("%r is another hash in the key `hashes`" % algorithm, "hash", "archive_info")
         return cls(hashes=hashes)
 
 
@@ -186,20 +205,14 @@ class DirInfo:
 
     @classmethod
     def _of(cls, table: Mapping[str, Any]) -> DirInfo:
-        return _native.made(cls, _FIELDS[DirInfo], {"editable": _value(table, "editable", bool)})
+        return cls(editable=_value(table, "editable", bool, "dir_info"))
 
 
-def _info(table: Mapping[str, Any], key: str, kind: Any) -> Any:
-    """The archive, repository or folder of a document."""
-    inner = table.get(key)
-    if inner is None:
-        return None
+def _info(table: Mapping[str, Any], inner: Any, key: str, kind: Any) -> Any:
+    """The archive, repository or folder of a document: of the inner table of the key."""
     if type(inner) is not dict:
         _value(table, key, abc.Mapping)
-    try:
-        return kind._of(inner)
-    except DirectUrlValidationError as error:
-        raise DirectUrlValidationError(error, context=key) from error
+    return kind._of(inner)
 
 
 @dataclass(frozen=True, init=False)
@@ -240,19 +253,20 @@ class DirectUrl:
         if type(d) is not dict and not isinstance(d, Mapping):
             raise DirectUrlValidationError("a Mapping is expected, not a %s" % type(d).__name__)
         url = _required(d, "url")
-        archive = _info(d, "archive_info", ArchiveInfo)
-        vcs = _info(d, "vcs_info", VcsInfo)
-        folder = _info(d, "dir_info", DirInfo)
+        archive, vcs, folder = d.get("archive_info"), d.get("vcs_info"), d.get("dir_info")
+        if archive is not None:
+            archive = _info(d, archive, "archive_info", ArchiveInfo)
+        if vcs is not None:
+            vcs = _info(d, vcs, "vcs_info", VcsInfo)
+        if folder is not None:
+            folder = _info(d, folder, "dir_info", DirInfo)
         subdirectory = _value(d, "subdirectory", str)
-        count = 3 - [archive, vcs, folder].count(None)
+        count = (archive is not None) + (vcs is not None) + (folder is not None)
         if count != 1:
             raise DirectUrlValidationError("one of archive_info, vcs_info and dir_info is expected, not %d of them" % count)
         if folder is not None and not url.startswith("file://"):
             raise DirectUrlValidationError("a folder's URL is expected to begin with `file://`", context="url")
-        fields = {
-            "url": url, "archive_info": archive, "vcs_info": vcs, "dir_info": folder, "subdirectory": subdirectory,
-        }
-        return _native.made(cls, _FIELDS[DirectUrl], fields) if cls.__init__ is DirectUrl.__init__ else cls(**fields)
+        return cls(url=url, archive_info=archive, vcs_info=vcs, dir_info=folder, subdirectory=subdirectory)
 
     def to_dict(
         self,
@@ -296,7 +310,5 @@ class DirectUrl:
             raise DirectUrlValidationError(error, context="url") from error
 
 
-# the fields of each class, by their names
-_FIELDS: Dict[type, Dict[str, str]] = {
-    kind: {name: name for name in fields_of(kind)} for kind in (ArchiveInfo, VcsInfo, DirInfo, DirectUrl)
-}
+# the fields of what a URL has
+_FIELDS: Dict[type, Tuple[str, ...]] = {kind: fields_of(kind) for kind in (ArchiveInfo, VcsInfo, DirInfo)}

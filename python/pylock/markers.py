@@ -332,6 +332,8 @@ class Marker(_native.Marker):
         if isinstance(environment, KeptEnvironment):
             kept = environment._kept
         else:
+            if environment is None and context != "lock_file":
+                self._find_sets(mapping)
             kept = _mapped(environment, True)
             if environment is not None:
                 mapping = environment

@@ -49,6 +49,8 @@ _CONTENT_TYPES = ("text/plain", "text/x-rst", "text/markdown")
 _MARKDOWN_VARIANTS = ("GFM", "CommonMark")
 
 _line_end = re.compile(r"\r\n|\r|\n")
+# what is mostly written for the type of a description, which needs no reader of headers
+_plain_type = re.compile(r"text/(?:plain|x-rst|markdown)(?:; charset=UTF-8)?(?:; variant=(?:%s))?\Z" % "|".join(_MARKDOWN_VARIANTS))
 
 
 class RawMetadata(TypedDict, total=False):
@@ -100,7 +102,7 @@ class InvalidMetadata(ValueError):
     field: str
 
     def __init__(self, field: str, message: str) -> None:
-        super().__init__(message)
+        self.args = (message,)
         self.field = field
 
     def __reduce__(self) -> Tuple[Type[InvalidMetadata], Tuple[str, str]]:
@@ -108,6 +110,10 @@ class InvalidMetadata(ValueError):
 
 
 # ---- messages ----
+
+# the end of a line and what its next one is set in by, for names of up to so many letters
+_MOST_BELOW = 40
+_BELOW = ["\n  " + " " * length for length in range(_MOST_BELOW)]
 
 
 class RFC822Policy(email.policy.EmailPolicy):
@@ -123,8 +129,11 @@ class RFC822Policy(email.policy.EmailPolicy):
         >>> RFC822Policy().header_store_parse("License", "one\\ntwo")
         ('License', 'one\\n         two')
         """
-        indent = " " * len(name + ": ")
-        return name, _line_end.sub(lambda found: found.group() + indent, value)
+        length = len(name)
+        below = _BELOW[length] if length < _MOST_BELOW else "\n  " + " " * length
+        if "\r" in value:
+            return name, _line_end.sub(lambda found: found.group() + below[1:], value)
+        return name, value.replace("\n", below)
 
 
 class RFC822Message(email.message.EmailMessage):
@@ -147,12 +156,17 @@ class RFC822Message(email.message.EmailMessage):
 # ---- what a field means: each takes the name of the header and the raw value ----
 
 
+def _refused(header: str, value: str, error: ValueError) -> InvalidMetadata:
+    """What is said of a value that is refused."""
+    return InvalidMetadata(header, "%r is refused for %r: %s" % (value, header, error))
+
+
 def _made(header: str, make: Callable[[str], _T], value: str) -> _T:
     """What is made of the value by one of the package's classes, whose refusal is the cause of this one."""
     try:
         return make(value)
     except ValueError as error:
-        raise InvalidMetadata(header, "%r is refused for %r: %s" % (value, header, error)) from error
+        raise _refused(header, value, error) from error
 
 
 def _any(header: str, value: _T) -> _T:
@@ -171,7 +185,10 @@ def _name(header: str, value: str) -> str:
 
 
 def _version(header: str, value: str) -> Version:
-    return _made(header, Version, value)
+    try:
+        return Version(value)
+    except ValueError as error:
+        raise _refused(header, value, error) from error
 
 
 def _summary(header: str, value: str) -> str:
@@ -182,6 +199,8 @@ def _summary(header: str, value: str) -> str:
 
 def _content_type(header: str, value: str) -> str:
     """The type of the description, the parameters of which count where they are known (RFC 2045)."""
+    if _plain_type.match(value):
+        return value
     message = email.message.EmailMessage()
     try:
         message["content-type"] = value
@@ -284,13 +303,14 @@ class _Field(Generic[_T]):
     def __get__(self, instance: Optional[Metadata], owner: Type[Metadata]) -> Union[_Field[_T], _T]:
         if instance is None:
             return self
-        value = instance._raw.get(self.name)
-        if self.name in ("name", "version") and not value:
+        name = self.name
+        value = instance._raw.get(name)
+        if not value and (name == "name" or name == "version"):
             raise InvalidMetadata(self.header, "%r is required" % self.header)
-        if value is not None or self.name == "metadata_version":
+        if value is not None or name == "metadata_version":
             value = self.read(self.header, value)
         # the attribute is found before the field from now on
-        instance.__dict__[self.name] = value
+        instance.__dict__[name] = value
         return cast(_T, value)
 
     def raw(self, values: List[str]) -> Any:
@@ -403,9 +423,8 @@ class Metadata:
         """What is wrong in the fields: those of the specification in its order, then those that aren't its own."""
         errors: List[Exception] = []
         known: Tuple[str, ...] = _VERSIONS
-        for name, field in _FIELDS.items():
-            if name not in self._raw and name not in _REQUIRED:
-                continue
+        given = self._raw.keys() | _REQUIRED
+        for name, field in [pair for pair in _FIELDS.items() if pair[0] in given]:
             if field.since not in known:
                 message = "the field %r came with version %s of the metadata, not %s"
                 errors.append(InvalidMetadata(field.header, message % (field.header, field.since, known[-1])))
@@ -446,6 +465,8 @@ _BY_HEADER: Dict[str, _Field[Any]] = {field.header: field for field in _FIELDS.v
 
 def _decoded(text: str) -> Tuple[str, bool]:
     """The text that bytes mean, given as Latin-1, and whether they are UTF-8; if not, they stay."""
+    if text.isascii():
+        return text, True
     try:
         return text.encode("latin-1").decode("utf-8"), True
     except UnicodeDecodeError:
@@ -466,13 +487,17 @@ def parse_email(data: Union[bytes, str]) -> Tuple[RawMetadata, Dict[str, List[st
     # each byte is a character to the reader of messages, which knows nothing of UTF-8
     encoded = data.encode("utf-8", "surrogateescape") if isinstance(data, str) else data
     message = email.parser.HeaderParser().parsestr(encoded.decode("latin-1"))
-    headers: Dict[str, List[Tuple[str, bool]]] = {}
+    headers: Dict[str, List[str]] = {}
+    broken = set()
     for header, text in message.raw_items():
-        headers.setdefault(header.lower(), []).append(_decoded(text))
-    for header, pairs in headers.items():
+        name = header.lower()
+        value, whole = _decoded(text)
+        headers.setdefault(name, []).append(value)
+        if not whole:
+            broken.add(name)
+    for header, values in headers.items():
         field = _BY_HEADER.get(header)
-        values = [value for value, _ in pairs]
-        value = field.raw(values) if field is not None and all(whole for _, whole in pairs) else None
+        value = field.raw(values) if field is not None and header not in broken else None
         if field is None or value is None:
             unparsed[header] = values
         else:

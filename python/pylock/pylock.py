@@ -57,6 +57,8 @@ __all__ = [
 ]
 
 _NOTHING = b'{"environment": {}, "tags": []}'
+# the versions of locks that are read: from the first to the one before the other
+_FIRST, _NEXT = Version("1"), Version("2")
 
 _Class = TypeVar("_Class")
 
@@ -68,8 +70,11 @@ def is_valid_pylock_path(path: PurePath) -> bool:
     >>> is_valid_pylock_path(PurePath("a/pylock.dev.toml")), is_valid_pylock_path(PurePath("dev.pylock.toml"))
     (True, False)
     """
-    pieces = path.name.split(".")
-    return pieces[0] == "pylock" and pieces[-1] == "toml" and (len(pieces) == 2 or len(pieces) == 3 and pieces[1] != "")
+    name = path.name
+    if name[:7] != "pylock." or name[-5:] != ".toml":
+        return False
+    middle = name[7:-5]
+    return middle != "" and "." not in middle or name == "pylock.toml"
 
 
 # ---- errors ----
@@ -91,14 +96,20 @@ class PylockValidationError(Refusal):
     message: str
 
     def __init__(self, cause: Union[str, Exception], *, context: Optional[str] = None, word: str = "") -> None:
-        if isinstance(cause, PylockValidationError):
-            context = ".".join(part for part in (context, cause.context) if part) or None
-            word = word or cause.word
-            self.message = cause.message
+        if type(cause) is str:
+            self.message = cause
         else:
-            self.message = str(cause)
-        super().__init__(self.message, word=word, place=context)
-        self.context = context
+            if isinstance(cause, PylockValidationError):
+                context = ".".join(part for part in (context, cause.context) if part) or None
+                word = word or cause.word
+                self.message = cause.message
+            else:
+                self.message = str(cause)
+            self.args = (self.message,)
+        if word:
+            self.word = word
+        if context is not None:
+            self.context = self.place = context
 
     def __str__(self) -> str:
         return self.message if self.context is None else "%s in %r" % (self.message, self.context)
@@ -111,6 +122,9 @@ class PylockUnsupportedVersionError(PylockValidationError):
 class PylockSelectError(Refusal):
     """The lock can't be installed so. `word` is the fault's code (docs/FORMATS.md), and `place` the number of the entry
     from 1, or 0 for the head of the lock."""
+
+    if not TYPE_CHECKING:
+        __init__ = ValueError.__init__
 
 
 # ---- the tables ----
@@ -210,7 +224,7 @@ class _File:
         >>> PackageSdist(url="https://h/a%2Bb-1.tar.gz?x#y", hashes={"sha256": "00"}).filename
         'a+b-1.tar.gz'
         """
-        name = self.name or _lock_shape.file_name(vars(self))
+        name = self.name or _lock_shape.name_at(self.path, self.url)
         if not name:
             raise PylockValidationError("there is no file name: neither a name, nor one at the end of path or url")
         return name
@@ -316,7 +330,8 @@ class Pylock:
         Raises PylockValidationError where the table is no lock that is taken strictly. A key whose value is None counts
         as absent. A version of the lock that is later than 1.0 is logged as a warning.
         """
-        if not isinstance(d, Mapping):
+        # what is a dict is mostly one itself, which is seen at once
+        if type(d) is not dict and not isinstance(d, Mapping):
             raise TypeError("expected a mapping, not %s" % type(d).__name__)
         _judge(d)
         lock: _Class = _of_table(cls, d)
@@ -464,13 +479,41 @@ def _refusal(table: Mapping[str, Any]) -> Optional[Exception]:
     return None
 
 
+def _is_taken_as(version: str, table: Mapping[str, Any]) -> bool:
+    """Whether the library takes a table with this version, and has nothing to say of it."""
+    try:
+        return _native.audit(_toml.document(dict(table, **{"lock-version": version})), False)[1] == 0
+    except (TypeError, ValueError, RecursionError):
+        return False
+
+
+def _check_version(version: str) -> None:
+    """Raises the error of a version of which no lock is read; a text that is no version isn't judged here."""
+    try:
+        is_read = _FIRST <= Version(version) < _NEXT
+    except ValueError:
+        return
+    if not is_read:
+        raise PylockUnsupportedVersionError("a lock of the version %s isn't read" % version, word="lock-version")
+
+
 def _judge(table: Mapping[str, Any]) -> None:
     """Raises PylockValidationError where the table isn't taken."""
-    if _refusal(table) is None:
+    fault = _lock_shape.fault_of_head(table)
+    if fault is not None:
+        key, message = fault
+        raise PylockValidationError(message, context=key, word=key)
+    version = table["lock-version"]
+    # the version is what is told last
+    if version[:2] != "1." and _is_taken_as("1.0", table):
+        _check_version(version)
+    refusal = _refusal(table)
+    if refusal is None:
         return
     # once more without what isn't judged, which may be what no TOML can hold: a key that is None, the tables of tools
     judged = _lock_shape.judged(table)
-    refusal = _refusal(judged)
+    if judged != table:
+        refusal = _refusal(judged)
     if refusal is not None:
         _refuse(judged, refusal)
 
@@ -487,10 +530,7 @@ def _refuse(table: Dict[str, Any], refusal: Exception) -> NoReturn:
         other = _refusal(as_read)
         if other is not None:
             _refuse(as_read, other)
-        if not Version("1") <= Version(table["lock-version"]) < Version("2"):
-            raise PylockUnsupportedVersionError(
-                "a lock of the version %s isn't read" % table["lock-version"], word=word
-            ) from refusal
+        _check_version(table["lock-version"])
     raise PylockValidationError(str(refusal), context=_context(refusal), word=word) from refusal
 
 
@@ -611,7 +651,9 @@ def _select_error(fault: PlanFault) -> PylockSelectError:
     if fault.code == "ambiguous":
         detail = str(int(detail) - 1)
     why = _FAULTS.get(fault.code, "its marker has no value: %s") % detail
-    return PylockSelectError("%s can't be selected: %s" % (where, why), word=fault.code, place=fault.id)
+    error = PylockSelectError("%s can't be selected: %s" % (where, why))
+    error.word, error.place = fault.code, fault.id
+    return error
 
 
 def _selected(lock: Pylock, environment: bytes, extras: List[str], groups: List[str]) -> Iterator[Tuple[int, str, int]]:

@@ -10,7 +10,7 @@ commas are taken, as `SpecifierSet` takes them.
 
 from __future__ import annotations
 
-from typing import TYPE_CHECKING, Any, Iterator, Optional, Set
+from typing import TYPE_CHECKING, Any, Iterator, Optional, Set, Tuple
 
 from . import _native, _private
 from ._errors import InvalidRequirement
@@ -96,6 +96,14 @@ class Requirement:
 
     def __getstate__(self) -> str:
         return str(self)
+
+    def __reduce__(self) -> Tuple[Any, ...]:
+        if type(self) is Requirement:
+            return Requirement, (str(self),)
+        # one of a class of one's own is made without its arguments
+        from copyreg import __newobj__  # type: ignore[attr-defined]
+
+        return __newobj__, (type(self),), self.__getstate__()
 
     def __setstate__(self, state: Any) -> None:
         """Takes a pickle of `packaging` too."""

@@ -41,7 +41,15 @@ def _given(item: UnparsedVersion) -> str:
     raise TypeError("expected a Version or a str, not %s" % type(item).__name__)
 
 
-class BaseSpecifier(metaclass=abc.ABCMeta):
+class _Abstract(abc.ABCMeta):
+    """The class of an abstract class that knows its own two at once, by the compiled part."""
+
+    def _has_instance(cls, instance: object) -> bool:
+        """Whether any other object is one, as every abstract class finds it."""
+        return super().__instancecheck__(instance)
+
+
+class BaseSpecifier(metaclass=_Abstract):
     """What `Specifier` and `SpecifierSet` are instances of, for `isinstance`, and for specifiers of one's own."""
 
     __slots__ = ()
@@ -117,8 +125,10 @@ class _Exact:
     def passes(self, item: UnparsedVersion) -> bool:
         """Whether all let it through. A version's text is its normal form."""
         text = str(item) if isinstance(item, Version) else _given(item)
-        if any([text.lower() != operand for operand in self.operands]):
-            return False
+        lower = text.lower()
+        for operand in self.operands:
+            if operand != lower:
+                return False
         return self.others is None or self.others._passes(text)
 
 
@@ -189,10 +199,10 @@ class Specifier(_private.SpecifierParts, _native.Specifier, _Judge):
 
         def __hash__(self) -> int: ...
 
-    else:
-        __hash__ = _native.Specifier.__hash__
+        def __eq__(self, other: object) -> bool: ...
 
-    def __eq__(self, other: object) -> bool:
+    def _equals(self, other: object) -> bool:
+        """Whether it is equal to a text, or to a specifier where one of both is of one's own class."""
         if isinstance(other, str):
             try:
                 other = type(self)(other)
@@ -257,9 +267,7 @@ class SpecifierSet(_private.SetParts, _native.Set, _Judge):
         __and__ = _native.Set._joined
 
     def _has_no_version(self, items: Tuple[Specifier, ...]) -> bool:
-        """Whether there is no version that it contains; its specifiers are given."""
-        if not items:
-            return False
+        """Whether there is no version that it contains; its specifiers are given, at least one."""
         if self._is_exact:
             operands = set(self._compares().operands)
             return len(operands) > 1 or not self.contains(operands.pop())
@@ -290,6 +298,7 @@ _native.use_specifier(Specifier)
 _native.use_set(SpecifierSet)
 BaseSpecifier.register(Specifier)
 BaseSpecifier.register(SpecifierSet)
+_native.use_abstract(BaseSpecifier)
 
 
 # ---- whether any version is admitted ----

@@ -96,14 +96,14 @@ def create_compatible_tags_selector(
     # of equal tags the first one counts
     ordered = list(tags)
     places = dict(zip(reversed(ordered), range(len(ordered) - 1, -1, -1)))
-    place_of, known = places.__getitem__, frozenset(places)
+    place_of = places.get
 
     def choose(tagged_things: Iterable[Tuple[_Thing, AbstractSet[Tag]]]) -> Iterator[_Thing]:
         found: List[Tuple[int, _Thing]] = []
         for thing, its_tags in tagged_things:
-            fitting = known.intersection(its_tags)
+            fitting = [place for place in map(place_of, its_tags) if place is not None]
             if fitting:
-                found.append((min(map(place_of, fitting)), thing))
+                found.append((min(fitting), thing))
         found.sort(key=_FIRST)
         return map(_SECOND, found)
 
@@ -113,12 +113,16 @@ def create_compatible_tags_selector(
 # ---- the running Python ----
 
 
+_sysconfig: Any = None
+
+
 def _config(name: str, warn: bool) -> Any:
     """A variable of the Python's configuration; `warn` tells the log where it isn't set."""
-    # imported here, as whatever the running Python is asked by: who reads and compares tags waits for none of it
-    import sysconfig
-
-    value = sysconfig.get_config_var(name)
+    global _sysconfig
+    if _sysconfig is None:
+        # imported here, as whatever the running Python is asked by: who reads and compares tags waits for none of it
+        import sysconfig as _sysconfig
+    value = _sysconfig.get_config_var(name)
     if value is None and warn:
         import logging
 
@@ -137,10 +141,7 @@ def interpreter_name() -> str:
     True
     """
     name = sys.implementation.name
-    try:
-        return INTERPRETER_SHORT_NAMES[name] or name
-    except KeyError:
-        return name
+    return INTERPRETER_SHORT_NAMES.get(name) or name
 
 
 def interpreter_version(*, warn: bool = False) -> str:

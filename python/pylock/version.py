@@ -112,8 +112,6 @@ class Version(_private.VersionParts, _native.Version, _BaseVersion):  # type: ig
         return str(self)
 
     def __reduce__(self) -> Tuple[Any, ...]:
-        if type(self) is Version:
-            return Version, (str(self),)
         from ._subclasses import reduced
 
         state = self._epoch, self._release, self._pre, self._post, self._dev, self._local

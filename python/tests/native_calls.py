@@ -8,7 +8,7 @@ import operator
 import re
 
 import pylock
-from pylock import _native
+from pylock import _native, direct_url
 
 ENVIRONMENT = json.dumps(
     {"environment": {"os_name": "posix", "sys_platform": "linux", "python_full_version": "3.12.4"}, "tags": ["py3-none-any"]}
@@ -454,6 +454,15 @@ class Narrow:
     __slots__ = ("size", "name")
 
 
+class Memo(dict):
+    """What a deep copy remembers: by the places of objects in memory, which aren't compared."""
+
+
+class NotCopied:
+    def __deepcopy__(self, memo):
+        raise ZeroDivisionError
+
+
 ATTRIBUTES = {"name": "name", "size": "size", "version": ("version", pylock.Version)}
 # what `toml` is told of values of other types: a text, a table or an array
 MEMBERS = frozenset(["a table"])
@@ -488,6 +497,23 @@ def of_tables():
         yield Row("made of %r" % (kind,), _native.made, fixed(kind, {}, {}), TypeError)
 
 
+def of_fields():
+    yield Row("field_method", _native.field_method, lambda: ("__init__", Entry, (fresh("name"), "size"), fresh, {"name": 1}))
+    for given in (("__new__", Entry, (), None, {}), (5, Entry, (), None, {}), ("__init__", 5, (), None, {}), ("__init__", Entry, [], None, {}),
+                  ("__init__", Entry, (), None, None), ("__init__", Entry, ([],), None, {}), ("__copy__", Entry, tuple("x" * 17), None, {})):
+        yield Row("field_method%.40r" % (given,), _native.field_method, fixed(*given), TypeError)
+    copy_of, deep_copy_of = (vars(direct_url.ArchiveInfo)[name] for name in ("__copy__", "__deepcopy__"))
+    make = vars(direct_url.VcsInfo)["__init__"]
+    yield Row("copy of an object", copy_of, lambda: (direct_url.ArchiveInfo(hashes={"a": fresh("b")}),))
+    yield Row("deep copy of an object", deep_copy_of, lambda: (direct_url.ArchiveInfo(hashes=fresh("b")), Memo()))
+    yield Row("deep copy of an object, no memo", deep_copy_of, lambda: (direct_url.ArchiveInfo(hashes=5), None), TypeError)
+    yield Row("deep copy of an object, refused", deep_copy_of, lambda: (direct_url.ArchiveInfo(hashes=NotCopied()), {}), ZeroDivisionError, False)
+    for given in ((), (5,), (direct_url.DirInfo(),)):
+        yield Row("copy%r" % (given,), copy_of, fixed(*given), TypeError)
+        yield Row("__init__%r" % (given,), make, fixed(*given), TypeError, False)
+    yield Row("__init__ by names", operator.methodcaller("__call__", direct_url.VcsInfo.__new__(direct_url.VcsInfo), vcs="git", commit_id="a"), fixed(make))
+
+
 def closed():
     one = session()
     one.close()
@@ -495,7 +521,7 @@ def closed():
 
 
 def rows():
-    return [row for part in (of_versions, of_names, of_specifiers, of_layers, of_tags, of_kept, of_markers, of_locks, of_tables) for row in part()]
+    return [row for part in (of_versions, of_names, of_specifiers, of_layers, of_tags, of_kept, of_markers, of_locks, of_tables, of_fields) for row in part()]
 
 
 def shown(value):
@@ -537,8 +563,12 @@ def shown(value):
         return str(value)
     if isinstance(value, _native.Filter):
         return "a filter"
+    if isinstance(value, (_native.FieldMethod, direct_url.ArchiveInfo)):
+        return "a method" if isinstance(value, _native.FieldMethod) else value.hashes
     if isinstance(value, (Entry, Narrow)):
         return [(name, shown(getattr(value, name, None))) for name in ("name", "size", "version")]
+    if isinstance(value, Memo):
+        return [shown(copy) for copy in value.values()]
     if isinstance(value, (frozenset, tuple, list)):
         return type(value), len(value)
     return value

@@ -145,7 +145,8 @@ class Arguments(unittest.TestCase):
         for kind in (_native.Version, _native.Tag, _native.Set, _native.Marker, _native.Specifier, _native.Layers):
             self.assertRaises(TypeError, object.__new__, kind)
         for odd in ODDS:
-            for call in (_native.use_version, _native.use_tag, _native.use_specifier, _native.use_set, _native.use_marker):
+            for call in (_native.use_version, _native.use_tag, _native.use_specifier, _native.use_set, _native.use_marker,
+                         _native.use_abstract):
                 self.assertRaises(TypeError, call, odd)
 
     def test_refusals_of_another(self):

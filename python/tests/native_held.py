@@ -11,7 +11,7 @@ import native_calls
 from native_calls import ENVIRONMENT, LOCK, fresh
 from native_hard import Free, new_module
 
-from pylock import _native
+from pylock import _native, direct_url
 
 # past that a call doesn't end
 MOST = 2_000
@@ -138,6 +138,10 @@ def of_dicts():
     other = native_calls.OTHERS.__getitem__
     yield "toml", lambda: Case(_native.toml, ({"a": [fresh("b"), {"c": fresh("d\ud800")}], "e": [5j], "f": fresh("g")}, other), told=changed)
     yield "made", lambda: Case(_native.made, (native_calls.Entry, dict(native_calls.ATTRIBUTES), {"version": fresh("1.0"), "name": fresh("b")}), told=changed)
+    yield "__init__ of a dataclass", case_of_names(direct_url.VcsInfo, lambda: {"vcs": fresh("git"), "commit_id": fresh("a")})
+    for name, more in (("__copy__", ()), ("__deepcopy__", ({},))):
+        yield name, lambda name=name, more=more: Case(
+            vars(direct_url.ArchiveInfo)[name], (direct_url.ArchiveInfo(hashes=fresh("a")), *map(dict, more)), told=changed)
     yield "made_all", lambda: Case(_native.made_all, (native_calls.Entry, dict(native_calls.ATTRIBUTES), [{"version": fresh("1.0"), "name": fresh("b")}]), told=changed)
 
 

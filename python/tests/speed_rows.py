@@ -6,6 +6,8 @@ the modules. What a line that begins with `refused` calls is to raise an excepti
 doesn't have yet.
 """
 
+import re
+
 ALIKE = """
     str(item)
     repr(item)
@@ -140,7 +142,6 @@ ROWS = [
     """),
     ("specifiers", ["f'>=1.{n}'", "f'>=1.0,<2.{n},!=1.5.*'", "f'>=1.0,!=1.1,!=1.2,!=1.3,!=1.4,<2.{n}'"], """
         SpecifierSet(item)
-        SpecifierSet(item.split(','))
         SpecifierSet(item, prereleases=True)
     """),
     ("specifiers", ["[Specifier(f'>=1.{n}'), Specifier('<2')]"], "SpecifierSet(item)"),
@@ -200,11 +201,11 @@ ROWS = [
      "refused parse_wheel_filename(item)"),
     ("utils", ["f'foo_bar-1.{n}.tar.gz'", "f'foo-1.{n}.zip'"], "parse_sdist_filename(item)"),
     ("utils", ["f'foo-1.{n}.whl'", "f'foo-x{n}.zip'"], "refused parse_sdist_filename(item)"),
-    ("tags", ["f'cp{n}'"], "Tag(item, 'abi3', 'manylinux_2_17_x86_64')"),
+    ("tags", ["f'cp{n}'", "f'CP{n}'"], "Tag(item, 'abi3', 'manylinux_2_17_x86_64')"),
     ("tags", ["f'py{n}-none-any'", "f'py2.py3-none-x{n}'", "f'cp38-abi3-a{n}.b.c'"], "parse_tag(item)"),
     ("tags", ["f'py2.py3-none-x{n}'"], "parse_tag(item, validate_order=True)"),
     ("tags", ["f'py3.py{n}.py2-none-any'"], "refused parse_tag(item, validate_order=True)"),
-    ("tags", ["Tag(f'CP{n}', 'abi3', 'any')"], ALIKE + """
+    ("tags", ["Tag(f'cp{n}', 'abi3', 'any')"], ALIKE + """
         item.interpreter
         item.abi
         item.platform
@@ -389,6 +390,67 @@ ROWS = [
     """),
     ("errors", ["f'a{n}'"], "ExceptionGroup(item, [ValueError('b')])"),
 ]
+
+# rows of a new item in which one of both makes what the other has made with the item: its making is measured with the line
+WITH_MAKING = (
+    r"specifiers: (list|repr|dumps)\(item\) of a new SpecifierSet",
+    r"markers: .*(repr|evaluate)\(.* of a new Marker",
+    r"tags: (item\.\w+|dumps\(item\)) of a new Tag",
+)
+
+
+def is_with_making(name):
+    """Whether the row of this name has the making of its item in it."""
+    return any(re.match(form, name) for form in WITH_MAKING)
+
+
+# rows in which no library can be ahead, as Python itself takes the time, and why: what a row's name begins with, and the
+# reason. A profile or a comparison of instructions is behind each reason (docs/PYTHON.md). `test_speed` says which forms no row
+# has, and whether what is read is a plain attribute.
+READ = "an attribute is read, which lies in the object on both sides"
+PICKLE = "`pickle` looks for the class and works through its opcodes"
+DATACLASS = "Python reads and compares the fields, in what `dataclasses` generates or by its loop over them"
+CONSTRUCTOR = "the constructor of a class of Python, which sets its attributes"
+REPLACED = "a method in Python that is `str.replace` and a tuple"
+LISTED = "`list` takes the items of the list's own iterator, which is handed on as it is"
+EMAIL = "`email` of the standard library"
+RUNNING = "`sys` and `sysconfig` are read"
+PATHLIB = "`pathlib` finds the last part of the path"
+_RECORDS = r"of a \w+ (DirectUrl|ArchiveInfo|DirInfo|VcsInfo|Package\w+)\("
+_OF_LOCK = r"of a \w+ Pylock\.from_dict"
+
+TIES = [
+    (r"requirements: item\.(name|extras|specifier|url|marker) of", READ),
+    (r"dependency_groups: item\.include_group of", READ),
+    (r"metadata: item\.\w+ of a kept", READ),
+    (r"tags: item\.(interpreter|abi|platform) of a kept", READ),
+    (r"direct_url: item\.(url|\w+_info|subdirectory|hashes|editable|vcs|commit_id|requested_revision) of", READ),
+    (r"pylock: item\.(?!filename|to_dict|validate|select)\w+ of", READ),
+    (r"specifiers: item\.prereleases of a \w+ SpecifierSet\(''\)", READ),
+    (r"specifiers: item\.is_unsatisfiable\(\) of a (kept SpecifierSet|new SpecifierSet\(''\))", READ),
+    (r"(version|specifiers|tags|dependency_groups): (loads\()?dumps\(item\)", PICKLE),
+    (r"requirements: dumps\(item\) of a \w+ Requirement\(f'foo( @|-bar)", PICKLE),
+    (r"(direct_url|pylock): (loads\()?dumps\(item\)\)? " + _RECORDS, PICKLE),
+    (r"pylock: (loads\()?dumps\(item\)\)? " + _OF_LOCK, PICKLE),
+    (r"(direct_url|pylock): (repr\(item\)|item == other|hash\(item\)|replace\(item\)) " + _RECORDS, DATACLASS),
+    (r"pylock: (repr|replace)\(item\) " + _OF_LOCK, DATACLASS),
+    (r"dependency_groups: (DependencyGroupInclude\(item\)|repr\(item\)) of", CONSTRUCTOR),
+    (r"dependency_groups: CyclicDependencyGroup\(", CONSTRUCTOR),
+    (r"metadata: InvalidMetadata\(", CONSTRUCTOR),
+    (r"pylock: Pylock\w+Error\(item\) of", CONSTRUCTOR),
+    (r"metadata: RFC822(Policy|Message)\(\) of", EMAIL),
+    (r"metadata: item\.header_store_parse\(", REPLACED),
+    (r"specifiers: list\(item\.filter\(some_versions, prereleases=True\)\) of a \w+ SpecifierSet\(''\)", LISTED),
+    (r"metadata: item\.as_(rfc822|bytes)\(\) of", EMAIL),
+    (r"tags: interpreter_(name|version)\(\) of", RUNNING),
+    (r"pylock: is_valid_pylock_path\(", PATHLIB),
+]
+
+
+def tie_of(name):
+    """Why a row of this name is a tie; None where it is none."""
+    return next((reason for form, reason in TIES if re.match(form, name)), None)
+
 
 # names that aren't measured, and why
 NOT_MEASURED = {

@@ -136,6 +136,8 @@ class Rules(unittest.TestCase):
     def test_objects(self):
         error = pickle.loads(pickle.dumps(ours.CyclicDependencyGroup("a", "b", "c")))
         self.assertEqual(told(error), ("CyclicDependencyGroup", "a", "b", "c"))
+        # the message alone, as in `packaging`
+        self.assertEqual(error.args, (str(error),))
         for kind in (ours.CyclicDependencyGroup, ours.DuplicateGroupNames, ours.InvalidDependencyGroupObject, InvalidRequirement):
             self.assertTrue(issubclass(kind, ValueError))
         items = ours.DependencyGroupResolver({"a": [include("B_b"), "x"]}).lookup("a")

@@ -2,6 +2,7 @@
 
 import copy
 import dataclasses
+import inspect
 import itertools
 import json
 import pickle
@@ -291,6 +292,89 @@ class Beside(unittest.TestCase):
                     ours, other = [type(error)(error, context=outer) for error in inner]
                     held = [(error.message, error.context or None, str(error)) for error in (ours, other)]
                     self.assertEqual(held[0], held[1])
+
+    def test_causes(self):
+        """The error of an inner table has that table's own as its cause, which tells the key alone."""
+        import pylock.direct_url
+
+        def chain(module, document):
+            try:
+                module.DirectUrl.from_dict(dict(document, url="https://h/"))
+            except module.DirectUrlValidationError as error:
+                inner = error.__cause__
+                told = None if inner is None else (isinstance(inner, type(error)), inner.context, inner.message == error.message)
+                return error.context, len(error.args), told, inner is error.__context__, error.__suppress_context__
+            raise AssertionError(document)
+
+        for document in ({}, {"vcs_info": 5}, {"vcs_info": {"vcs": "git"}}, {"vcs_info": {"vcs": 5}}, {"dir_info": {"editable": 1}},
+                         {"archive_info": {"hashes": 5}}, {"archive_info": {"hashes": {"a": 1}}}, {"archive_info": {"hash": "a"}},
+                         {"archive_info": {"hash": "a=b", "hashes": {}}}, {"archive_info": {"hash": "a=b", "hashes": {"a": "c"}}}):
+            self.assertEqual(chain(pylock.direct_url, document), chain(theirs, document), document)
+
+    def test_made(self):
+        """What a constructor takes and refuses, also where it is called again, and what `inspect` and a subclass find of it."""
+        import pylock.direct_url
+
+        def told(call):
+            try:
+                return call()
+            except TypeError as error:
+                return str(error)
+
+        def taken(call):
+            return [(one.name, one.kind, one.default) for one in inspect.signature(call).parameters.values()]
+
+        def answers_of(module):
+            kind = module.VcsInfo
+            one = kind(vcs="git", commit_id="a")
+
+            class Named(kind):
+                def __init__(self, name, **named):
+                    super().__init__(commit_id=name, **named)
+
+            again = kind.__init__(one, vcs="hg", commit_id="b", requested_revision="c"), vars(one)
+            return [
+                again, taken(kind), taken(kind.__init__), kind.__init__.__name__,
+                vars(Named("d", vcs="svn")), kind(**{"commit_id": 1, "vcs": None}) == kind(vcs=None, commit_id=1.0),
+                *(told(lambda named=named: kind(**named)) for named in ({}, {"vcs": 1}, {"vcs": 1, "commit_id": 2, "x": 3})),
+                told(lambda: kind("git", "a")), told(lambda: kind("git", vcs=1, commit_id=2)),
+            ]
+
+        self.assertEqual(answers_of(pylock.direct_url), answers_of(theirs))
+        for other in (5, int, object()):
+            self.assertRaises((AttributeError, TypeError), vars(VcsInfo)["__init__"], other, vcs="git", commit_id="a")
+
+    def test_copies(self):
+        """Copies of an object with an attribute more, of one in itself, and of classes that are made from one."""
+        import pylock.direct_url
+
+        def answers_of(module):
+            hashes = {"sha256": ["a"]}
+            one = module.ArchiveInfo(hashes=hashes)
+            object.__setattr__(one, "more", hashes)
+            hashes["self"] = one
+            shallow, deep = copy.copy(one), copy.deepcopy(one)
+
+            class Own(module.ArchiveInfo):
+                __slots__ = ("note",)
+
+            class Told(module.ArchiveInfo):
+                def __reduce__(self):
+                    return Told, (), {"hashes": {"told": "b"}}
+
+                def __init__(self, **named):
+                    super().__init__(hashes=named or None)
+
+            own, told = Own(hashes={}), Told(x="y")
+            object.__setattr__(own, "note", "n")
+            copies = [copy.copy(own), copy.deepcopy(own)]
+            return [
+                shallow.hashes is hashes, shallow.more is hashes, deep.hashes is deep.more, deep.hashes is hashes,
+                deep.hashes["self"] is deep, deep.hashes["sha256"], [(type(each) is Own, each.note, each.hashes) for each in copies],
+                copy.copy(told).hashes, copy.deepcopy(told).hashes, copy.copy(module.DirInfo(editable=True)) == module.DirInfo(editable=True),
+            ]
+
+        self.assertEqual(answers_of(pylock.direct_url), answers_of(theirs))
 
     def test_names(self):
         import pylock.direct_url

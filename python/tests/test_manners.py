@@ -97,7 +97,8 @@ class Refusals(unittest.TestCase):
                 # what points at the place in a text has that, and looks for the place when it is shown
                 points = error in (pylock.InvalidSpecifier, pylock.InvalidMarker, pylock.InvalidRequirement)
                 source = {"source": text} if points else {}
-                self.assertEqual(vars(caught.exception), {"word": word, "place": None, **source})
+                self.assertEqual(vars(caught.exception), {"word": word, **source})
+                self.assertIsNone(caught.exception.place)
                 (message,) = caught.exception.args
                 self.assertEqual(str(caught.exception).endswith("^") if points else str(caught.exception), points or message)
                 again = pickle.loads(pickle.dumps(caught.exception))

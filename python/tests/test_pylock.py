@@ -309,6 +309,25 @@ class Objects(unittest.TestCase):
 
 
 class Errors(unittest.TestCase):
+    def test_head(self):
+        """What the head alone is refused for, the library refuses too, by the same word, whatever else is in the lock."""
+        found = set()
+        heads = itertools.product((None, 5, True, b"1.0", "1.0", "1.1", "2.0", "x"), (None, 5, ["a"], "me"))
+        others = ({}, {"packages": []}, {"packages": 5}, {"packages": [{"name": "A"}]}, {"extras": ["A"]}, {"tool": {"a": 1}})
+        for (version, maker), other in itertools.product(heads, others):
+            given = {"lock-version": version, "created-by": maker, **other}
+            table = {key: value for key, value in given.items() if value is not None}
+            fault = _lock_shape.fault_of_head(table)
+            if fault is not None:
+                found.add(fault[0])
+                wrong = _lock_shape.fault_of(table)
+                self.assertEqual(fault, (wrong.path, wrong.message))
+                if not isinstance(version, bytes):
+                    with self.assertRaises(pylock.InvalidLock) as caught:
+                        pylock.Lock(_toml.document(table))
+                    self.assertEqual(caught.exception.word, fault[0])
+        self.assertEqual(found, {"lock-version", "created-by"})
+
     def test_attributes(self):
         inner = ours.PylockValidationError("it is wrong", context="b[0]", word="head")
         self.assertEqual((inner.message, inner.context, str(inner)), ("it is wrong", "b[0]", "it is wrong in 'b[0]'"))

@@ -37,6 +37,15 @@ def own_members(kind):
                     yield name
 
 
+def row_names():
+    """The names of the rows, with their items and lines."""
+    for module, items, lines in speed_rows.ROWS:
+        for item in items:
+            for line in filter(None, map(str.strip, lines.splitlines())):
+                for word in ("new", "kept"):
+                    yield "%s: %s of a %s %s" % (module, line, word, item), item, line
+
+
 def missing():
     """The public names that have no row."""
     for module, theirs in MODULES.items():
@@ -58,6 +67,20 @@ def missing():
 class Rows(unittest.TestCase):
     def test_all_names(self):
         self.assertEqual(list(missing()), [])
+
+    def test_ties(self):
+        """Each form of a tie has rows; of a row that is a tie as an attribute is read, that is found without a function of
+        `packaging` itself but a property."""
+        names = [name for name, *_ in row_names()]
+        for form, reason in speed_rows.TIES:
+            self.assertTrue(any(re.match(form, name) for name in names), (form, reason))
+        for name, item, line in row_names():
+            if speed_rows.tie_of(name) == speed_rows.READ:
+                self.assertRegex(line, r"\Aitem\.\w+(\(\))?\Z", name)
+
+    def test_with_making(self):
+        for form in speed_rows.WITH_MAKING:
+            self.assertTrue(any(re.match(form, name) for name, *_ in row_names()), form)
 
     def test_exceptions(self):
         """What isn't measured, or raised, is there."""
