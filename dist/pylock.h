@@ -243,6 +243,13 @@ int32_t pylock_is_name(const uint8_t *text, size_t length, bool *is_name);
  * PYLOCK_NOT_UTF8, PYLOCK_REQUIREMENT_*, PYLOCK_MEMORY. */
 int32_t pylock_requirement(const uint8_t *text, size_t length, pylock_text *record);
 
+/* The specifiers of a requirement as they are written, without the parentheses round
+ * them: their text reads as the requirement's set. Empty where it has a URL or none.
+ * Of a text that is no requirement it is a refusal or any piece of the text.
+ * PYLOCK_NOT_UTF8, PYLOCK_REQUIREMENT_*, PYLOCK_ROOM, PYLOCK_MEMORY. */
+int32_t pylock_requirement_set(const uint8_t *text, size_t length,
+                               uint8_t *out, size_t room, size_t *needed);
+
 /* A record of what was expected of a text that is refused as a requirement, and where:
  * how many bytes stand before the stretch of the text that it is about; how many
  * before the end of that, which is the place; a sentence; and for a person two lines,
