@@ -6,10 +6,14 @@ import io
 import json
 import os
 import re
+import sys
 import tempfile
 import unittest
 
 from support import TOP, bytes_of, text_of, toml
+
+sys.path.append(os.path.join(TOP, "tools", "rows"))
+from worked import bytes_in, title_of
 
 import pylock
 import pylock.__main__
@@ -21,31 +25,6 @@ NOTHING = b'{"environment":{},"tags":[]}'
 # The rows that stand in tools/rows; the others are those of crates/cases.
 ROWS = ("replies", "plans", "explains")
 STATUS = re.compile(r"(^|\n)status [0-9]\Z")
-
-
-def bytes_in(value):
-    """The bytes that a value of a case stands for: a text, or pieces of it."""
-    if isinstance(value, str):
-        return value.encode()
-    if isinstance(value, int):
-        return bytes([value])
-    if isinstance(value, dict):
-        text = value["text"]
-        if "#" in text:
-            return "".join(text.replace("#", str(number)) for number in range(value["times"])).encode()
-        return text.encode() * value["times"]
-    return b"".join(bytes_in(piece) for piece in value)
-
-
-def title(case):
-    """The title of a case: its name, or the texts that it is given."""
-    if "name" in case:
-        return case["name"]
-    texts = []
-    for key in sorted(case):
-        values = case[key] if isinstance(case[key], list) else [case[key]]
-        texts += [value for value in values if isinstance(value, str)]
-    return "  ".join(texts)
 
 
 def answers():
@@ -210,7 +189,7 @@ class Worked(unittest.TestCase):
         cases = READER.loads(text_of(*place, file + ".toml"))[kind]
         seen = {}
         for case in cases:
-            name = title(case)
+            name = title_of(case)
             place = seen[name] = seen.get(name, -1) + 1
             blocks = self.expected.get((name, told))
             if blocks is None or "brief" in case:
