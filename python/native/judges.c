@@ -3,13 +3,6 @@
 
 /* ---- making and ending ---- */
 
-Judge *new_judge(State *state, PyTypeObject *type)
-{
-    Judge *judge = (Judge *)new_object(state, type);
-    if (judge != NULL) judge->hash = -1;
-    return judge;
-}
-
 bool take_judged(PyObject *arguments, PyObject *named, const char *format, char **words, PyObject **taken)
 {
     Py_ssize_t count = PyTuple_Size(arguments), place = 0;
@@ -24,26 +17,37 @@ bool take_judged(PyObject *arguments, PyObject *named, const char *format, char 
     return true;
 }
 
-void say_forced(Judge *judge, PyObject *value)
+bool say_forced(Judge *judge, PyObject *value)
 {
-    PyObject *before = judge->forced;
-    judge->forced = value == Py_None ? NULL : hold(value);
+    bool says = value != Py_None;
+    if (!says && said_of(judge) == NULL) return true;
+    Asked *asked = want_asked(judge);
+    if (asked == NULL) return false;
+    PyObject *before = asked->forced;
+    asked->forced = says ? hold(value) : NULL;
     judge->unsatisfiable = UNKNOWN;
     Py_XDECREF(before);
+    return true;
 }
 
 enum { MOST_ENDING = 50 };
 
 static void end_judge(State *state, PyObject *self)
 {
-    Judge *judge = (Judge *)self;
     state->ending++;
-    if (judge->is_set)
+    if (((Judge *)self)->is_set) {
+        SetAsked *asked = ((Set *)self)->asked;
         forget_set(self);
-    else
+        if (asked != NULL) {
+            Py_CLEAR(asked->asked.forced);
+            free_asked(state, asked);
+        }
+        free_object(self);
+    } else {
         forget_specifier(self);
-    Py_CLEAR(judge->forced);
-    free_object(self);
+        Py_CLEAR(((Specifier *)self)->asked.forced);
+        leave_object(self, &state->spare_specifiers);
+    }
     state->ending--;
 }
 
@@ -62,6 +66,7 @@ void judge_dealloc(PyObject *self)
     while (state->ending == 0 && state->waiting != NULL) {
         PyObject *next = state->waiting;
         state->waiting = ((Judge *)next)->next;
+        ((Judge *)next)->state = state;
         end_judge(state, next);
     }
     leave_state(state);
@@ -83,28 +88,29 @@ static bool is_text_of(const Judge *judge, PyObject *text, const Pair *pair)
 }
 
 /* Reads the text into the slot, unless there is another text or a slot by now: false with an exception. */
-static bool read_slot(Judge *judge, PyObject *text, const Pair *pair)
+static bool read_slot(Judge *judge, pylock_set *slot, PyObject *text, const Pair *pair)
 {
     Text view;
     if (!text_of(text, &view)) return false;
-    bool is_its = is_text_of(judge, text, pair) && !judge->slot.full;
-    int32_t code = is_its ? pylock_set_parse(&judge->slot, view.bytes, view.length) : PYLOCK_OK;
+    bool is_its = is_text_of(judge, text, pair) && !slot->full;
+    int32_t code = is_its ? pylock_set_parse(slot, view.bytes, view.length) : PYLOCK_OK;
     text_done(&view);
     if (code != PYLOCK_OK) raise_refusal(judge->state, code, text, "specifier");
     return code == PYLOCK_OK;
 }
 
-bool fill_slot(Judge *judge)
+pylock_set *fill_slot(Judge *judge)
 {
-    while (!judge->slot.full) {
+    Asked *asked = want_asked(judge);
+    while (asked != NULL && !asked->slot.full) {
         Pair pair = {NULL, NULL};
         PyObject *text = take_text(judge, &pair);
-        bool is_good = text != NULL && read_slot(judge, text, &pair);
+        bool is_good = text != NULL && read_slot(judge, &asked->slot, text, &pair);
         let_go(text);
         let_pair_go(&pair);
-        if (!is_good) return false;
+        if (!is_good) return NULL;
     }
-    return true;
+    return asked == NULL ? NULL : &asked->slot;
 }
 
 /* ---- whether a version is admitted ---- */
@@ -138,8 +144,8 @@ static int32_t ask(Judge *judge, PyObject *version, bool *admits, PyObject **tex
     *text = given_text(judge->state, version);
     if (*text == NULL || !text_of(*text, &view)) return -1;
     /* from the last look at the slot on nothing runs but the library */
-    bool is_full = fill_slot(judge);
-    int32_t code = is_full ? pylock_set_admits(&judge->slot, view.bytes, view.length, admits) : -1;
+    pylock_set *slot = fill_slot(judge);
+    int32_t code = slot != NULL ? pylock_set_admits(slot, view.bytes, view.length, admits) : -1;
     text_done(&view);
     return code;
 }
@@ -170,7 +176,7 @@ static int passes(Judge *judge, PyObject *item)
     int32_t code = ask(judge, item, &admits, &text);
     if (code == PYLOCK_OK) return admits;
     /* the empty set says nothing of texts */
-    if (is_no_version(code)) return judge->is_set && ((Set *)judge)->count == 0;
+    if (is_no_version(code)) return judge->is_set && judge->count == 0;
     if (code > 0) raise_refusal(judge->state, code, text, "version");
     return -1;
 }
@@ -178,7 +184,7 @@ static int passes(Judge *judge, PyObject *item)
 bool judge_lets_all(const Judge *judge)
 {
     const Set *set = (const Set *)judge;
-    return judge->is_set && set->count == 0 && (set->text != NULL || set->items != NULL);
+    return judge->is_set && judge->count == 0 && (set->text != NULL || items_in(set) != NULL);
 }
 
 int judge_lets(Judge *judge, PyObject *item)
@@ -229,7 +235,8 @@ static int contains(Judge *judge, PyObject *item, PyObject *prereleases, PyObjec
 /* What was said of pre-releases: held, or None. */
 static PyObject *forced_of(const Judge *judge)
 {
-    return hold(judge->forced == NULL ? Py_None : judge->forced);
+    PyObject *said = said_of(judge);
+    return hold(said == NULL ? Py_None : said);
 }
 
 bool place_arguments(const char *function, const char *const *words, PyObject *const *arguments, Py_ssize_t count, PyObject *names,
@@ -298,6 +305,25 @@ PyObject *get_is_exact(PyObject *self, void *closure)
     return PyBool_FromLong(((Judge *)self)->has_exact);
 }
 
+/* What the Python layer keeps here, or None. */
+PyObject *get_exact(PyObject *self, void *closure)
+{
+    const Asked *asked = asked_of((Judge *)self);
+    (void)closure;
+    return hold(asked == NULL || asked->exact == NULL ? Py_None : asked->exact);
+}
+
+int set_exact(PyObject *self, PyObject *value, void *closure)
+{
+    Asked *asked = want_asked((Judge *)self);
+    (void)closure;
+    if (asked == NULL) return -1;
+    PyObject *before = asked->exact;
+    asked->exact = hold(value);
+    Py_XDECREF(before);
+    return 0;
+}
+
 PyObject *get_forced(PyObject *self, void *closure)
 {
     (void)closure;
@@ -311,15 +337,14 @@ int set_forced(PyObject *self, PyObject *value, void *closure)
         PyErr_SetString(PyExc_AttributeError, "what was said of pre-releases can't be deleted");
         return -1;
     }
-    say_forced((Judge *)self, value);
-    return 0;
+    return say_forced((Judge *)self, value) ? 0 : -1;
 }
 
 PyObject *get_asks(PyObject *self, void *closure)
 {
     Judge *judge = (Judge *)self;
     (void)closure;
-    if (judge->forced != NULL) return hold(judge->forced);
+    if (said_of(judge) != NULL) return hold(said_of(judge));
     if (judge_lets_all(judge)) return hold(Py_None);
     int asks = judge->is_set ? set_asks(self) : specifier_asks(self);
     return asks < 0 ? NULL : hold(asks ? Py_True : Py_None);
@@ -329,13 +354,13 @@ PyObject *judge_repr(PyObject *self)
 {
     Judge *judge = (Judge *)self;
     bool is_own = Py_TYPE(self) != (judge->is_set ? judge->state->set_class : judge->state->specifier_class);
-    if (!is_own && judge->forced == NULL) {
+    if (!is_own && said_of(judge) == NULL) {
         PyObject *text = PyObject_Str(self);
         PyObject *shown = text == NULL ? NULL : PyUnicode_FromFormat(judge->is_set ? "<SpecifierSet(%R)>" : "<Specifier(%R)>", text);
         Py_XDECREF(text);
         return shown;
     }
-    PyObject *forced = hold(judge->forced), *shown = NULL;
+    PyObject *forced = hold(said_of(judge)), *shown = NULL;
     PyObject *name = PyObject_GetAttrString((PyObject *)Py_TYPE(self), "__name__"), *text = name == NULL ? NULL : PyObject_Str(self);
     if (text != NULL && forced == NULL)
         shown = PyUnicode_FromFormat("<%S(%R)>", name, text);

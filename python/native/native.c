@@ -11,23 +11,13 @@ State *state_of(PyObject *module)
     return place == NULL ? NULL : *place;
 }
 
-/* The state of a process in which there has been one alone, as in most, so that no type needs to be asked for its own. It is
- * NULL until there is one, and `several` for ever from when there are others or it is gone. Interpreters with locks of their
- * own may look here at any time, and each finds its own state or that it is to ask. The header for such variables isn't
- * used, as that of gcc isn't one for clang. */
-static State several;
-static State *single;
-
-State *single_state(void)
-{
-    State *state = __atomic_load_n(&single, __ATOMIC_RELAXED);
-    return state == &several ? NULL : state;
-}
+State several, *single;
 
 void leave_state(State *state)
 {
     if (--state->users > 0) return;
     __atomic_store_n(&single, &several, __ATOMIC_SEQ_CST);
+    while (state->spare_asked.count > 0) PyMem_Free(state->spare_asked.each[--state->spare_asked.count]);
     PyMem_Free(state);
 }
 
@@ -74,17 +64,6 @@ PyObject *new_object(State *state, PyTypeObject *type)
     return self;
 }
 
-PyObject *new_object_of(State *state, PyTypeObject *type, Spares *spares, size_t size)
-{
-    if (type != spares->type || spares->count == 0) return new_object(state, type);
-    PyObject *self = PyObject_Init(spares->each[--spares->count], type);
-    memset((Object *)self + 1, 0, size - sizeof(Object));
-    ((Object *)self)->state = state;
-    state->users++;
-    PyObject_GC_Track(self);
-    return self;
-}
-
 PyObject *usual_reduce(PyObject *self, PyObject *protocol)
 {
     return PyObject_CallMethod((PyObject *)&PyBaseObject_Type, "__reduce_ex__", "(OO)", self, protocol);
@@ -97,19 +76,6 @@ void free_object(PyObject *self)
     /* what all of the module's types have, and classes that are made from them */
     PyObject_GC_Del(self);
     /* each instance of a type that was made at run time holds it */
-    Py_DECREF(type);
-}
-
-void leave_object(PyObject *self, Spares *spares)
-{
-    PyTypeObject *type = Py_TYPE(self);
-    if (type != spares->type || spares->count == MOST_SPARE) {
-        free_object(self);
-        return;
-    }
-    /* the module has its type still, and so its state */
-    spares->each[spares->count++] = self;
-    ((Object *)self)->state->users--;
     Py_DECREF(type);
 }
 
@@ -129,7 +95,7 @@ static bool is_class_of(PyObject *object, PyTypeObject *base)
     return false;
 }
 
-static void put(PyObject **place, PyObject *object)
+void replace(PyObject **place, PyObject *object)
 {
     PyObject *before = *place;
     Py_INCREF(object);
@@ -137,12 +103,17 @@ static void put(PyObject **place, PyObject *object)
     Py_XDECREF(before);
 }
 
+static void clear_tags(State *state)
+{
+    for (int place = 0; place < MOST_TAGS; place++) Py_CLEAR(state->tags[place].tag);
+}
+
 static PyObject *use_refusals(PyObject *module, PyObject *const *arguments, Py_ssize_t count)
 {
     State *state = state_of(module);
     if (!check_count("use_refusals", count, 2)) return NULL;
-    put(&state->refuse, arguments[0]);
-    put(&state->refuse_input, arguments[1]);
+    replace(&state->refuse, arguments[0]);
+    replace(&state->refuse_input, arguments[1]);
     for (int number = 0; number < MOST_REFUSALS; number++) Py_CLEAR(state->refusals[number]);
     Py_RETURN_NONE;
 }
@@ -167,15 +138,23 @@ static int is_like(PyTypeObject *type, PyTypeObject *base)
     return is_one;
 }
 
+/* Makes a class that is made from a base the one of which results are, and its objects' memory the one that is kept: false with
+ * an exception. */
+static bool use_class(PyObject *type, PyTypeObject *base, PyTypeObject **place, Spares *spares)
+{
+    if (!is_class_of(type, base)) return false;
+    int has_spares = is_like((PyTypeObject *)type, base);
+    if (has_spares < 0) return false;
+    clear_spares(spares);
+    replace((PyObject **)place, type);
+    if (has_spares && *place == (PyTypeObject *)type) spares->type = (PyTypeObject *)type;
+    return true;
+}
+
 static PyObject *use_version(PyObject *module, PyObject *type)
 {
     State *state = state_of(module);
-    if (!is_class_of(type, state->version)) return NULL;
-    int has_spares = is_like((PyTypeObject *)type, state->version);
-    if (has_spares < 0) return NULL;
-    clear_spares(&state->spare_versions);
-    put((PyObject **)&state->version_class, type);
-    if (has_spares && state->version_class == (PyTypeObject *)type) state->spare_versions.type = (PyTypeObject *)type;
+    if (!use_class(type, state->version, &state->version_class, &state->spare_versions)) return NULL;
     Py_RETURN_NONE;
 }
 
@@ -183,19 +162,16 @@ static PyObject *use_tag(PyObject *module, PyObject *type)
 {
     State *state = state_of(module);
     if (!is_class_of(type, state->tag)) return NULL;
-    put((PyObject **)&state->tag_class, type);
-    /* those that are kept are of another class; what ends with them may take the module apart */
-    PyObject *tags = hold(state->tags);
-    if (tags != NULL) PyDict_Clear(tags);
-    let_go(tags);
+    replace((PyObject **)&state->tag_class, type);
+    /* those that are kept are of another class */
+    clear_tags(state);
     Py_RETURN_NONE;
 }
 
 static PyObject *use_specifier(PyObject *module, PyObject *type)
 {
     State *state = state_of(module);
-    if (!is_class_of(type, state->specifier)) return NULL;
-    put((PyObject **)&state->specifier_class, type);
+    if (!use_class(type, state->specifier, &state->specifier_class, &state->spare_specifiers)) return NULL;
     Py_RETURN_NONE;
 }
 
@@ -203,7 +179,7 @@ static PyObject *use_set(PyObject *module, PyObject *type)
 {
     State *state = state_of(module);
     if (!is_class_of(type, state->set)) return NULL;
-    put((PyObject **)&state->set_class, type);
+    replace((PyObject **)&state->set_class, type);
     Py_RETURN_NONE;
 }
 
@@ -226,7 +202,7 @@ static PyObject *use_abstract(PyObject *module, PyObject *type)
     bool is_good = check != NULL && PyObject_SetAttrString((PyObject *)Py_TYPE(type), instance_check.ml_name, check) == 0;
     Py_XDECREF(check);
     if (!is_good) return NULL;
-    put(&state->abstract_class, type);
+    replace(&state->abstract_class, type);
     Py_RETURN_NONE;
 }
 
@@ -234,7 +210,7 @@ static PyObject *use_marker(PyObject *module, PyObject *type)
 {
     State *state = state_of(module);
     if (!is_class_of(type, state->marker)) return NULL;
-    put((PyObject **)&state->marker_class, type);
+    replace((PyObject **)&state->marker_class, type);
     Py_RETURN_NONE;
 }
 
@@ -272,7 +248,6 @@ static PyMethodDef functions[] = {
     word(state->marker_class);                                                                                           \
     word(state->refuse);                                                                                                 \
     word(state->refuse_input);                                                                                           \
-    word(state->tags);                                                                                                   \
     word(state->places);
 
 static int module_traverse(PyObject *module, visitproc visit, void *arg)
@@ -281,6 +256,7 @@ static int module_traverse(PyObject *module, visitproc visit, void *arg)
     if (state == NULL) return 0;
     EACH(state, Py_VISIT)
     for (int number = 0; number < MOST_REFUSALS; number++) Py_VISIT(state->refusals[number]);
+    for (int place = 0; place < MOST_TAGS; place++) Py_VISIT(state->tags[place].tag);
     return 0;
 }
 
@@ -290,8 +266,10 @@ static int module_clear(PyObject *module)
     if (state == NULL) return 0;
     clear_spares(&state->spare_tags);
     clear_spares(&state->spare_versions);
+    clear_spares(&state->spare_specifiers);
     EACH(state, Py_CLEAR)
     for (int number = 0; number < MOST_REFUSALS; number++) Py_CLEAR(state->refusals[number]);
+    clear_tags(state);
     return 0;
 }
 

@@ -120,7 +120,7 @@ PyObject *own_dict(PyObject *dict);
 
 /* ---- the state of the module ---- */
 
-enum { MOST_SPARE = 64, MOST_SEEN_TAGS = 1024, MOST_REFUSALS = 256 };
+enum { MOST_SPARE = 64, MOST_TAGS = 2048, MOST_REFUSALS = 256 };
 
 /* The memory of objects of a type that were let go of, for the next ones: what Python does for tuples and numbers. */
 typedef struct {
@@ -129,6 +129,18 @@ typedef struct {
     PyObject *each[MOST_SPARE];
     int count;
 } Spares;
+
+/* The same of parts of objects. */
+typedef struct {
+    void *each[MOST_SPARE];
+    int count;
+} SpareParts;
+
+/* A tag that came twice, or NULL, for those of the same text, and the hash of the one that came last to its place. */
+typedef struct {
+    PyObject *tag;
+    Py_hash_t seen;
+} KeptTag;
 
 typedef struct {
     /* the module, and each object of its types: an object may outlive the module where the collector takes both apart */
@@ -143,10 +155,10 @@ typedef struct {
     PyObject *operators;
     /* Python functions that tell the exception of a code, or NULL; and what the first has told, by its number */
     PyObject *refuse, *refuse_input, *refusals[MOST_REFUSALS];
-    /* tags that came twice, by their texts, and the hashes of those that came once */
-    PyObject *tags;
-    Py_hash_t seen_tags[MOST_SEEN_TAGS];
-    Spares spare_tags, spare_versions;
+    /* by the hashes of their texts */
+    KeptTag tags[MOST_TAGS];
+    Spares spare_tags, spare_versions, spare_specifiers;
+    SpareParts spare_asked;
     /* how many specifiers and sets end within one another's end, and those that wait for the end of these */
     int ending;
     PyObject *waiting;
@@ -155,14 +167,35 @@ typedef struct {
 } State;
 
 State *state_of(PyObject *module);
+/* Puts an object in the place of another one, or of none, which is let go of. */
+void replace(PyObject **place, PyObject *object);
 /* An object or a call uses the state no more, which is counted in `users`: the last one frees it. */
 void leave_state(State *state);
-/* The state, where the process has had but one; else NULL. */
-State *single_state(void);
+/* The state of a process in which there has been one alone, as in most, so that no type needs to be asked for its own. It is
+ * NULL until there is one, and `several` for ever from when there are others or it is gone. Interpreters with locks of their
+ * own may look here at any time, and each finds its own state or that it is to ask. The header for such variables isn't
+ * used, as that of gcc isn't one for clang. */
+extern State several, *single;
+
+/* That state, or NULL. */
+static inline State *single_state(void)
+{
+    State *state = __atomic_load_n(&single, __ATOMIC_RELAXED);
+    return state == &several ? NULL : state;
+}
+
+/* The state, by one of the module's types or a class that is made from it, which `own_state_of` asks. NULL with an exception where
+ * there is none. */
+State *own_state_of(PyTypeObject *type);
+
+static inline State *state_of_type(PyTypeObject *type)
+{
+    State *only = single_state();
+    return only == NULL ? own_state_of(type) : only;
+}
+
 /* Whether the object is a module of this file, and so has such a state. */
 bool is_this_module(PyObject *object);
-/* The state, by one of the module's types or a class that is made from it. NULL with an exception where there is none. */
-State *state_of_type(PyTypeObject *type);
 
 /* ---- texts ---- */
 
@@ -223,6 +256,27 @@ static inline char *digits_before(char *end, uint64_t number)
 
 /* The text itself as an exact str: a new reference. */
 PyObject *exact_text(PyObject *object);
+
+#define EACH_BYTE UINT64_C(0x0101010101010101)
+
+/* Whether a function finds none of a text's bytes: the high bit of a byte says that it does, in a word of eight. A short text has
+ * spaces before it. */
+static inline bool has_none(const uint8_t *text, size_t length, uint64_t (*found_in)(uint64_t word))
+{
+    uint64_t found = 0, word = ' ' * EACH_BYTE;
+    if (length < sizeof word)
+        while (length > 0) word = word << 8 | text[--length];
+    else {
+        const uint8_t *last = text + length - sizeof word;
+        for (; text < last; text += sizeof word) {
+            memcpy(&word, text, sizeof word);
+            found |= found_in(word);
+        }
+        /* the last one may begin within the one before */
+        memcpy(&word, last, sizeof word);
+    }
+    return ((found | found_in(word)) & 0x80 * EACH_BYTE) == 0;
+}
 
 /* ---- results ---- */
 
@@ -304,13 +358,35 @@ PyObject *no_new(PyTypeObject *type, PyObject *arguments, PyObject *named);
 /* An object of one of the module's types, or of a class that is made from it, all zeros but for the state. */
 PyObject *new_object(State *state, PyTypeObject *type);
 /* The same in the memory of one that was let go of, if there is any. */
-PyObject *new_object_of(State *state, PyTypeObject *type, Spares *spares, size_t size);
+static inline PyObject *new_object_of(State *state, PyTypeObject *type, Spares *spares, size_t size)
+{
+    if (type != spares->type || spares->count == 0) return new_object(state, type);
+    PyObject *self = PyObject_Init(spares->each[--spares->count], type);
+    memset((Object *)self + 1, 0, size - sizeof(Object));
+    ((Object *)self)->state = state;
+    state->users++;
+    PyObject_GC_Track(self);
+    return self;
+}
+
 /* What a pickle has of an object of a class of one's own: `object` asks the class. */
 PyObject *usual_reduce(PyObject *self, PyObject *protocol);
 /* Frees such an object, whose parts were given up. */
 void free_object(PyObject *self);
 /* The same, or keeps its memory. */
-void leave_object(PyObject *self, Spares *spares);
+static inline void leave_object(PyObject *self, Spares *spares)
+{
+    PyTypeObject *type = Py_TYPE(self);
+    if (type != spares->type || spares->count == MOST_SPARE) {
+        free_object(self);
+        return;
+    }
+    /* the module has its type still, and so its state */
+    spares->each[spares->count++] = self;
+    ((Object *)self)->state->users--;
+    Py_DECREF(type);
+}
+
 
 PyObject *version_of_text(State *state, PyTypeObject *type, PyObject *text);
 /* The same of a text that the library gave as a version's normal form; of the class of the Python layer. */

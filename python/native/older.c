@@ -15,10 +15,8 @@ int visit_type_in(PyObject *self, visitproc visit, void *arg, traverseproc own)
     return 0;
 }
 
-State *state_of_type(PyTypeObject *type)
+State *own_state_of(PyTypeObject *type)
 {
-    State *only = single_state();
-    if (only != NULL) return only;
     /* the module's own type is the last before `object`: nothing in it stands on another of its types */
     for (;;) {
         PyTypeObject *base = PyType_GetSlot(type, Py_tp_base);
@@ -63,10 +61,8 @@ int visit_type_in(PyObject *self, visitproc visit, void *arg, traverseproc own)
     return 0;
 }
 
-State *state_of_type(PyTypeObject *type)
+State *own_state_of(PyTypeObject *type)
 {
-    State *only = single_state();
-    if (only != NULL) return only;
     PyObject *module = PyObject_GetAttrString((PyObject *)type, MODULE_NAME);
     if (module == NULL) return NULL;
     State *state = NULL;

@@ -1,8 +1,6 @@
 /* Sets of specifiers. */
 #include "specifiers.h"
 
-#include <structmember.h>
-
 /* ---- parts that sets were joined of ---- */
 
 /* Whether the part is a pair of parts: in the tuple of a set's specifiers there is neither a tuple nor a text. */
@@ -107,10 +105,10 @@ PyObject *set_text(PyObject *self)
 {
     Set *set = (Set *)self;
     if (set->text != NULL && PyUnicode_Check(set->text)) return hold(set->text);
-    PyObject *part = part_of(set->text, set->items), *before = hold(set->text);
+    PyObject *part = part_of(set->text, items_in(set)), *before = hold(set->text);
     PyObject *text = part == NULL ? NULL : text_of_parts(set->judge.state, part);
     /* what else ran meanwhile may have read another text */
-    if (text != NULL && set->text == before && (before != NULL || set->items == part)) {
+    if (text != NULL && set->text == before && (before != NULL || items_in(set) == part)) {
         Py_XDECREF(before);
         set->text = hold(text);
     }
@@ -146,15 +144,17 @@ static PyObject *items_of_parts(State *state, PyObject *whole)
 static PyObject *set_items(PyObject *self)
 {
     Set *set = (Set *)self;
-    if (set->items != NULL && !is_joined(set->items)) return hold(set->items);
-    if (set->items == NULL && set->text != NULL && set->count == 0) return hold(set->items = PyTuple_New(0));
-    PyObject *part = part_of(set->items, set->text), *before = hold(set->items);
-    PyObject *items = NULL;
-    if (part != NULL) items = is_joined(part) ? items_of_parts(set->judge.state, part) : items_of_part(set->judge.state, part);
+    PyObject *had = items_in(set), *items = NULL;
+    if (had != NULL && !is_joined(had)) return hold(had);
+    /* the one that there is of no members */
+    if (had == NULL && set->text != NULL && set->judge.count == 0) return PyTuple_New(0);
+    PyObject *part = part_of(had, set->text), *before = hold(had);
+    if (part != NULL && want_asked(&set->judge) != NULL)
+        items = is_joined(part) ? items_of_parts(set->judge.state, part) : items_of_part(set->judge.state, part);
     /* as in the text */
-    if (items != NULL && set->items == before && (before != NULL || set->text == part)) {
+    if (items != NULL && items_in(set) == before && (before != NULL || set->text == part)) {
         Py_XDECREF(before);
-        set->items = hold(items);
+        set->asked->items = hold(items);
     }
     let_go(before);
     let_go(part);
@@ -163,25 +163,55 @@ static PyObject *set_items(PyObject *self)
 
 /* ---- making ---- */
 
+Asked *make_asked(Set *set)
+{
+    SpareParts *spares = &set->judge.state->spare_asked;
+    SetAsked *asked = spares->count > 0 ? spares->each[--spares->count] : PyMem_Malloc(sizeof(SetAsked));
+    if (asked == NULL) return (Asked *)PyErr_NoMemory();
+    memset(asked, 0, sizeof(SetAsked));
+    asked->asked.hash = -1;
+    set->asked = asked;
+    return &asked->asked;
+}
+
+void free_asked(State *state, SetAsked *asked)
+{
+    SpareParts *spares = &state->spare_asked;
+    if (spares->count < MOST_SPARE)
+        spares->each[spares->count++] = asked;
+    else
+        PyMem_Free(asked);
+}
+
+/* Gives it up, but for what was said of pre-releases. */
+static void forget_asked(SetAsked *asked)
+{
+    SetAsked had = *asked;
+    memset(asked, 0, sizeof(SetAsked));
+    asked->asked.forced = had.asked.forced;
+    asked->asked.hash = -1;
+    pylock_set_free(&had.asked.slot);
+    Py_XDECREF(had.items);
+    Py_XDECREF(had.shown);
+    Py_XDECREF(had.asked.exact);
+}
+
 void forget_set(PyObject *self)
 {
     Set *set = (Set *)self;
-    pylock_set slot = set->judge.slot;
-    PyObject *had[] = {set->text, set->items, set->shown, set->judge.exact};
-    memset(&set->judge.slot, 0, sizeof slot);
-    set->text = set->items = set->shown = set->judge.exact = NULL;
-    set->count = 0;
+    PyObject *text = set->text;
+    set->text = NULL;
+    set->judge.count = 0;
     set->judge.has_exact = false;
     set->judge.unsatisfiable = UNKNOWN;
-    set->judge.hash = -1;
-    pylock_set_free(&slot);
-    for (size_t place = 0; place < sizeof had / sizeof *had; place++) Py_XDECREF(had[place]);
+    if (set->asked != NULL) forget_asked(set->asked);
+    Py_XDECREF(text);
 }
 
 /* Whether the set has nothing that would be read in its place; what it has is given up. */
 static void make_empty(Set *set)
 {
-    while (set->text != NULL || set->items != NULL) forget_set((PyObject *)set);
+    while (set->text != NULL || items_in(set) != NULL) forget_set((PyObject *)set);
 }
 
 /* The code of the library on the text of a set, the number of its specifiers, and whether one compares texts. */
@@ -199,13 +229,12 @@ static int32_t judge_text(PyObject *text, Py_ssize_t *count, bool *has_exact)
     return code;
 }
 
-/* Gives the set a text that was judged, or specifiers, in place of what it has. */
-static void put_whole(Set *set, PyObject *text, PyObject *items, Py_ssize_t count, bool has_exact)
+/* Gives the set a text that was judged, which it has from here on, in place of what it has. */
+static void put_text(Set *set, PyObject *text, Py_ssize_t count, bool has_exact)
 {
     make_empty(set);
     set->text = text;
-    set->items = items;
-    set->count = count;
+    set->judge.count = (uint64_t)count;
     set->judge.has_exact = has_exact;
 }
 
@@ -218,7 +247,7 @@ static bool read_text(Set *set, PyObject *text)
     int32_t code = judge_text(text, &count, &has_exact);
     if (code > PYLOCK_OK) raise_refusal(set->judge.state, code, text, "specifier");
     PyObject *kept = code == PYLOCK_OK ? exact_text(text) : NULL;
-    if (kept != NULL) put_whole(set, kept, NULL, count, has_exact);
+    if (kept != NULL) put_text(set, kept, count, has_exact);
     return kept != NULL;
 }
 
@@ -257,10 +286,14 @@ static bool take_each(Set *set, PyObject *each)
 {
     bool has_exact = false;
     PyObject *items = tuple_of_items(set->judge.state, each);
-    if (items == NULL) return false;
+    if (items == NULL || want_asked(&set->judge) == NULL) {
+        Py_XDECREF(items);
+        return false;
+    }
     Py_ssize_t count = PyTuple_Size(items);
     for (Py_ssize_t place = 0; place < count; place++) has_exact |= ((Judge *)PyTuple_GetItem(items, place))->has_exact;
-    put_whole(set, NULL, items, count, has_exact);
+    put_text(set, NULL, count, has_exact);
+    set->asked->items = items;
     return true;
 }
 
@@ -285,7 +318,7 @@ static bool read_texts(Set *set, PyObject *each)
     int32_t code = text == NULL ? -1 : judge_text(text, &count, &has_exact);
     if (code == PYLOCK_MEMORY) PyErr_NoMemory();
     bool is_good = code == PYLOCK_OK && count == PyTuple_Size(each);
-    if (is_good) put_whole(set, hold(text), NULL, count, has_exact);
+    if (is_good) put_text(set, hold(text), count, has_exact);
     Py_XDECREF(text);
     return is_good;
 }
@@ -308,15 +341,18 @@ static int set_init(PyObject *self, PyObject *arguments, PyObject *named)
     Set *set = (Set *)self;
     if (!take_judged(arguments, named, "|OO:SpecifierSet", words, taken)) return -1;
     if (taken[0] == NULL) taken[0] = PyUnicode_FromString("");
-    bool is_good = taken[0] != NULL && (PyUnicode_Check(taken[0]) ? read_text(set, taken[0]) : take_items(set, taken[0]));
-    if (is_good) say_forced(&set->judge, taken[1] == NULL ? Py_None : taken[1]);
+    bool says = taken[1] != NULL && taken[1] != Py_None;
+    /* the place for what is said comes first, so that the set is made whole or not at all */
+    bool is_good = taken[0] != NULL && (!says || want_asked(&set->judge) != NULL);
+    is_good = is_good && (PyUnicode_Check(taken[0]) ? read_text(set, taken[0]) : take_items(set, taken[0]));
+    is_good = is_good && say_forced(&set->judge, says ? taken[1] : Py_None);
     let_arguments_go(taken);
     return is_good ? 0 : -1;
 }
 
 static Set *new_set(State *state, PyTypeObject *type)
 {
-    Set *set = (Set *)new_judge(state, type);
+    Set *set = (Set *)new_object(state, type);
     if (set != NULL) set->judge.is_set = true;
     return set;
 }
@@ -331,9 +367,11 @@ static PyObject *set_new(PyTypeObject *type, PyObject *arguments, PyObject *name
 static int set_traverse(PyObject *self, visitproc visit, void *arg)
 {
     Set *set = (Set *)self;
-    Py_VISIT(set->judge.forced);
-    Py_VISIT(set->judge.exact);
-    Py_VISIT(set->items);
+    if (set->asked != NULL) {
+        Py_VISIT(set->asked->asked.forced);
+        Py_VISIT(set->asked->asked.exact);
+        Py_VISIT(set->asked->items);
+    }
     Py_VISIT(set->text);
     return visit_type_in(self, visit, arg, set_traverse);
 }
@@ -341,9 +379,11 @@ static int set_traverse(PyObject *self, visitproc visit, void *arg)
 static int set_clear(PyObject *self)
 {
     Set *set = (Set *)self;
-    Py_CLEAR(set->judge.forced);
-    Py_CLEAR(set->judge.exact);
-    Py_CLEAR(set->items);
+    if (set->asked != NULL) {
+        Py_CLEAR(set->asked->asked.forced);
+        Py_CLEAR(set->asked->asked.exact);
+        Py_CLEAR(set->asked->items);
+    }
     if (set->text != NULL && PyTuple_Check(set->text)) Py_CLEAR(set->text);
     return 0;
 }
@@ -353,7 +393,7 @@ static int set_clear(PyObject *self)
 /* What is said of pre-releases in both: held, or NULL with an exception. */
 static PyObject *joined_forced(const Set *left, const Set *right)
 {
-    PyObject *one = left->judge.forced, *other = right->judge.forced;
+    PyObject *one = said_of(&left->judge), *other = said_of(&right->judge);
     if (one == NULL || other == NULL || one == other) return hold(one != NULL ? one : other != NULL ? other : Py_None);
     hold(one);
     hold(other);
@@ -375,24 +415,33 @@ static PyObject *pair_of(PyObject *left, PyObject *right)
     return pair;
 }
 
+/* Gives a new set the text of both, and their specifiers, as far as there are more than texts: false with an exception. */
+static bool put_both(Set *both, const Set *left, const Set *right)
+{
+    bool has_items = items_in(left) != NULL || items_in(right) != NULL;
+    PyObject *items = NULL;
+    if (has_items && want_asked(&both->judge) == NULL) return false;
+    PyObject *text = pair_of(part_of(left->text, items_in(left)), part_of(right->text, items_in(right)));
+    if (text != NULL && has_items) items = pair_of(part_of(items_in(left), left->text), part_of(items_in(right), right->text));
+    if (text == NULL || (has_items && items == NULL)) {
+        Py_XDECREF(text);
+        return false;
+    }
+    both->text = text;
+    if (has_items) both->asked->items = items;
+    uint64_t count = (uint64_t)left->judge.count + right->judge.count;
+    both->judge.count = count > MOST_COUNTED ? MOST_COUNTED : count;
+    both->judge.has_exact = left->judge.has_exact || right->judge.has_exact;
+    return true;
+}
+
 /* A set of the specifiers of both, of which nothing is read or made again. */
 static PyObject *joined(Set *left, Set *right)
 {
     State *state = left->judge.state;
     PyObject *forced = joined_forced(left, right);
     Set *both = forced == NULL ? NULL : new_set(state, state->set_class);
-    PyObject *text = both == NULL ? NULL : pair_of(part_of(left->text, left->items), part_of(right->text, right->items));
-    PyObject *items = text == NULL ? NULL : pair_of(part_of(left->items, left->text), part_of(right->items, right->text));
-    if (items == NULL) {
-        Py_XDECREF(text);
-        Py_CLEAR(both);
-    } else {
-        both->text = text;
-        both->items = items;
-        both->count = left->count + right->count;
-        both->judge.has_exact = left->judge.has_exact || right->judge.has_exact;
-        say_forced(&both->judge, forced);
-    }
+    if (both != NULL && !(put_both(both, left, right) && say_forced(&both->judge, forced))) Py_CLEAR(both);
     Py_XDECREF(forced);
     return (PyObject *)both;
 }
@@ -432,11 +481,12 @@ static PyObject *get_normal_text(PyObject *self, void *closure)
     PyObject *text = NULL;
     uint8_t *room = result.near;
     (void)closure;
-    if (!fill_slot(&set->judge)) return NULL;
-    int32_t code = pylock_set_text(&set->judge.slot, room, RESULT_ROOM, &result.length);
+    pylock_set *slot = fill_slot(&set->judge);
+    if (slot == NULL) return NULL;
+    int32_t code = pylock_set_text(slot, room, RESULT_ROOM, &result.length);
     if (code == PYLOCK_ROOM) {
         room = PyMem_Malloc(result.length);
-        code = room == NULL ? PYLOCK_MEMORY : pylock_set_text(&set->judge.slot, room, result.length, &result.length);
+        code = room == NULL ? PYLOCK_MEMORY : pylock_set_text(slot, room, result.length, &result.length);
     }
     if (code == PYLOCK_OK)
         text = str_of(room, result.length);
@@ -455,9 +505,9 @@ static PyObject *set_items_call(PyObject *self, PyObject *nothing)
 static Py_ssize_t set_length(PyObject *self)
 {
     Set *set = (Set *)self;
-    PyObject *part = part_of(set->items, set->text);
+    PyObject *part = part_of(items_in(set), set->text);
     let_go(part);
-    return part == NULL ? -1 : set->count;
+    return part == NULL ? -1 : (Py_ssize_t)set->judge.count;
 }
 
 static PyObject *set_iter(PyObject *self)
@@ -484,11 +534,11 @@ static PyObject *set_says_more(PyObject *self, PyObject *nothing)
     Set *set = (Set *)self;
     bool says = false;
     (void)nothing;
-    if (set->items == NULL) return PyBool_FromLong(false);
+    if (items_in(set) == NULL) return PyBool_FromLong(false);
     PyObject *items = set_items(self);
     if (items == NULL) return NULL;
     for (Py_ssize_t place = 0; place < PyTuple_Size(items); place++)
-        says |= ((Judge *)PyTuple_GetItem(items, place))->forced != NULL;
+        says |= said_of((Judge *)PyTuple_GetItem(items, place)) != NULL;
     Py_DECREF(items);
     return PyBool_FromLong(says);
 }
@@ -544,11 +594,12 @@ static PyObject *made_shown(State *state, PyObject *items)
 static PyObject *set_str(PyObject *self)
 {
     Set *set = (Set *)self;
-    if (set->shown != NULL) return hold(set->shown);
+    if (set->asked != NULL && set->asked->shown != NULL) return hold(set->asked->shown);
+    if (judge_lets_all(&set->judge)) return PyUnicode_FromString("");
     PyObject *items = set_items(self);
     PyObject *shown = items == NULL ? NULL : made_shown(set->judge.state, items);
     /* as in the text */
-    if (shown != NULL && set->items == items && set->shown == NULL) set->shown = hold(shown);
+    if (shown != NULL && items_in(set) == items && set->asked->shown == NULL) set->asked->shown = hold(shown);
     let_go(items);
     return shown;
 }
@@ -559,12 +610,12 @@ enum { EMPTY_HASH = 1 };
 static Py_hash_t set_hash(PyObject *self)
 {
     Set *set = (Set *)self;
-    if (set->judge.hash != -1) return set->judge.hash;
+    if (set->asked != NULL && set->asked->asked.hash != -1) return set->asked->asked.hash;
     if (judge_lets_all(&set->judge)) return EMPTY_HASH;
     PyObject *items = set_items(self), *distinct = items == NULL ? NULL : PyFrozenSet_New(items);
     Py_hash_t hash = distinct == NULL ? -1 : short_hash(distinct);
     /* as in the text */
-    if (set->items == items) set->judge.hash = hash;
+    if (items != NULL && items_in(set) == items) set->asked->asked.hash = hash;
     Py_XDECREF(distinct);
     let_go(items);
     return hash;
@@ -609,14 +660,12 @@ static PyObject *set_is_unsatisfiable(PyObject *self, PyObject *nothing)
     Set *set = (Set *)self;
     (void)nothing;
     if (set->judge.unsatisfiable != UNKNOWN) return PyBool_FromLong(set->judge.unsatisfiable == YES);
-    PyObject *items = set_items(self), *forced = hold(set->judge.forced), *found = NULL;
-    if (items != NULL && PyTuple_Size(items) == 0)
-        found = hold(Py_False);
-    else if (items != NULL)
-        found = PyObject_CallMethod(self, "_has_no_version", "(O)", items);
+    if (judge_lets_all(&set->judge)) return PyBool_FromLong(false);
+    PyObject *items = set_items(self), *forced = hold(said_of(&set->judge));
+    PyObject *found = items == NULL ? NULL : PyObject_CallMethod(self, "_has_no_version", "(O)", items);
     int told = found == NULL ? -1 : PyObject_IsTrue(found);
     /* what else ran meanwhile may have read another text, or said more */
-    if (told >= 0 && set->items == items && set->judge.forced == forced) set->judge.unsatisfiable = told ? YES : NO;
+    if (told >= 0 && items_in(set) == items && said_of(&set->judge) == forced) set->judge.unsatisfiable = told ? YES : NO;
     Py_XDECREF(found);
     let_go(forced);
     let_go(items);
@@ -645,15 +694,11 @@ static PyGetSetDef set_getters[] = {
     {"normal_text", get_normal_text, NULL, PyDoc_STR("The normal form: the specifiers in the order of the text, their versions in normal form."), NULL},
     {"_text", get_text, NULL, PyDoc_STR("The same."), NULL},
     {"_is_exact", get_is_exact, NULL, PyDoc_STR("Whether a specifier compares texts."), NULL},
+    {"_exact", get_exact, set_exact, PyDoc_STR("What compares texts."), NULL},
     {"_forced", get_forced, set_forced, PyDoc_STR("What was said of pre-releases."), NULL},
     {"prereleases", get_asks, set_forced,
      PyDoc_STR("What was said of pre-releases, else true where a specifier asks for them, else None. It can be assigned; no copy takes part."), NULL},
     {NULL, NULL, NULL, NULL, NULL},
-};
-
-static PyMemberDef set_members[] = {
-    {"_exact", T_OBJECT, offsetof(Set, judge.exact), 0, PyDoc_STR("What compares texts.")},
-    {NULL, 0, 0, 0, NULL},
 };
 
 static PyType_Slot set_slots[] = {
@@ -672,7 +717,6 @@ static PyType_Slot set_slots[] = {
     {Py_sq_contains, judge_in},
     {Py_tp_methods, set_methods},
     {Py_tp_getset, set_getters},
-    {Py_tp_members, set_members},
     {0, NULL},
 };
 

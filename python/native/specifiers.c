@@ -64,26 +64,33 @@ bool is_exact_sign(const Span *span)
 void forget_specifier(PyObject *self)
 {
     Specifier *specifier = (Specifier *)self;
-    pylock_set slot = specifier->judge.slot;
-    PyObject *had[] = {specifier->operator, specifier->version, specifier->normal, specifier->judge.exact};
-    memset(&specifier->judge.slot, 0, sizeof slot);
-    specifier->operator = specifier->version = specifier->normal = specifier->judge.exact = NULL;
-    specifier->judge.hash = -1;
+    pylock_set slot = specifier->asked.slot;
+    PyObject *had[] = {specifier->operator, specifier->version, specifier->normal, specifier->asked.exact};
+    memset(&specifier->asked.slot, 0, sizeof slot);
+    specifier->operator = specifier->version = specifier->normal = specifier->asked.exact = NULL;
+    specifier->asked.hash = -1;
     specifier->judge.early = UNKNOWN;
     pylock_set_free(&slot);
     for (size_t place = 0; place < sizeof had / sizeof *had; place++) Py_XDECREF(had[place]);
 }
 
-/* Gives a specifier what stands in a span, in place of what it has: false with an exception. Its set is kept from when it is
- * first asked, as that takes longer. */
-static bool give_span(Specifier *specifier, const Span *span, const Text *view)
+/* The operand of a span: of a text in ASCII it is cut from the str, which takes less time than its bytes do. */
+static PyObject *operand_of(const Span *span, PyObject *text, const Text *view)
+{
+    bool is_ascii = (size_t)PyUnicode_GetLength(text) == view->length;
+    return is_ascii ? PyUnicode_Substring(text, (Py_ssize_t)span->operand, (Py_ssize_t)span->operand_end)
+                    : str_of(view->bytes + span->operand, span->operand_end - span->operand);
+}
+
+/* Gives a specifier what stands in a span of a text, in place of what it has: false with an exception. Its set is kept from when
+ * it is first asked, as that takes longer. */
+static bool give_span(Specifier *specifier, const Span *span, PyObject *text, const Text *view)
 {
     int place = place_of_sign(span, view);
-    size_t length = span->operand_end - span->operand;
     /* NULL where the module was taken apart */
     PyObject *operators = specifier->judge.state->operators;
     PyObject *operator = operators == NULL ? PyUnicode_InternFromString(signs[place]) : hold(PyTuple_GetItem(operators, place));
-    PyObject *version = str_of(view->bytes + span->operand, length);
+    PyObject *version = operand_of(span, text, view);
     if (operator == NULL || version == NULL) {
         Py_XDECREF(operator);
         Py_XDECREF(version);
@@ -93,7 +100,7 @@ static bool give_span(Specifier *specifier, const Span *span, const Text *view)
     while (specifier->operator != NULL) forget_specifier((PyObject *)specifier);
     specifier->operator = operator;
     specifier->version = version;
-    specifier->judge.sign = (unsigned char)place;
+    specifier->judge.sign = (unsigned)place;
     specifier->judge.has_exact = place == EXACT;
     return true;
 }
@@ -109,7 +116,7 @@ static bool read_specifier(Specifier *specifier, PyObject *text)
     int32_t code = spans_of(&view, &spans);
     bool is_one = code == PYLOCK_OK && spans.count == 1 && memchr(view.bytes, ',', view.length) == NULL;
     if (is_one)
-        is_good = give_span(specifier, spans.each, &view);
+        is_good = give_span(specifier, spans.each, text, &view);
     else
         raise_refusal(specifier->judge.state, code == PYLOCK_OK ? PYLOCK_SET_SYNTAX : code, text, "specifier");
     spans_done(&spans);
@@ -117,39 +124,53 @@ static bool read_specifier(Specifier *specifier, PyObject *text)
     return is_good;
 }
 
+static Specifier *new_specifier(State *state, PyTypeObject *type)
+{
+    Specifier *specifier = (Specifier *)new_object_of(state, type, &state->spare_specifiers, sizeof(Specifier));
+    if (specifier != NULL) specifier->asked.hash = -1;
+    return specifier;
+}
+
+static int init_specifier(Specifier *specifier, PyObject *text, PyObject *forced)
+{
+    if (text == NULL || !read_specifier(specifier, text)) return -1;
+    return say_forced(&specifier->judge, forced == NULL ? Py_None : forced) ? 0 : -1;
+}
+
 static int specifier_init(PyObject *self, PyObject *arguments, PyObject *named)
 {
     static char *words[] = {"spec", "prereleases", NULL};
     PyObject *taken[MOST_TAKEN];
     Specifier *specifier = (Specifier *)self;
+    /* the text alone, as mostly: the arguments of the call hold it */
+    if (named == NULL && PyTuple_Size(arguments) == 1) return init_specifier(specifier, PyTuple_GetItem(arguments, 0), NULL);
     if (!take_judged(arguments, named, "|OO:Specifier", words, taken)) return -1;
     if (taken[0] == NULL) taken[0] = PyUnicode_FromString("");
-    bool is_good = taken[0] != NULL && read_specifier(specifier, taken[0]);
-    if (is_good) say_forced(&specifier->judge, taken[1] == NULL ? Py_None : taken[1]);
+    int told = init_specifier(specifier, taken[0], taken[1]);
     let_arguments_go(taken);
-    return is_good ? 0 : -1;
+    return told;
 }
 
 static PyObject *specifier_new(PyTypeObject *type, PyObject *arguments, PyObject *named)
 {
     (void)arguments, (void)named;
     State *state = state_of_type(type);
-    return state == NULL ? NULL : (PyObject *)new_judge(state, type);
+    return state == NULL ? NULL : (PyObject *)new_specifier(state, type);
 }
 
 static int specifier_traverse(PyObject *self, visitproc visit, void *arg)
 {
     Specifier *specifier = (Specifier *)self;
-    Py_VISIT(specifier->judge.forced);
-    Py_VISIT(specifier->judge.exact);
+    Py_VISIT(specifier->asked.forced);
+    Py_VISIT(specifier->asked.exact);
     return visit_type_in(self, visit, arg, specifier_traverse);
 }
 
 static int specifier_clear(PyObject *self)
 {
     Specifier *specifier = (Specifier *)self;
-    Py_CLEAR(specifier->judge.forced);
-    Py_CLEAR(specifier->judge.exact);
+    Py_CLEAR(specifier->asked.forced);
+    Py_CLEAR(specifier->asked.exact);
     return 0;
 }
 
@@ -239,11 +260,11 @@ PyObject *specifier_canonical(PyObject *self, PyObject *nothing)
 static Py_hash_t specifier_hash(PyObject *self)
 {
     Specifier *specifier = (Specifier *)self;
-    if (specifier->judge.hash != -1) return specifier->judge.hash;
+    if (specifier->asked.hash != -1) return specifier->asked.hash;
     PyObject *version = hold(specifier->version);
     PyObject *canonical = specifier_canonical(self, NULL);
     Py_hash_t hash = canonical == NULL ? -1 : short_hash(canonical);
-    if (specifier->version == version) specifier->judge.hash = hash;
+    if (specifier->version == version) specifier->asked.hash = hash;
     Py_XDECREF(canonical);
     let_go(version);
     return hash;
@@ -257,7 +278,7 @@ static int early_of(Specifier *specifier)
     if (specifier->judge.early != UNKNOWN) return specifier->judge.early;
     if (!take_pair(specifier, &pair)) return -1;
     int early = specifier->judge.sign == UNEQUAL || is_prefix(specifier) ? NO : early_text(specifier->judge.state, pair.version);
-    if (early >= 0 && is_pair_of(&pair, specifier)) specifier->judge.early = (unsigned char)early;
+    if (early >= 0 && is_pair_of(&pair, specifier)) specifier->judge.early = (unsigned)early;
     let_pair_go(&pair);
     return early;
 }
@@ -266,7 +287,7 @@ static PyObject *get_prereleases(PyObject *self, void *closure)
 {
     Specifier *specifier = (Specifier *)self;
     (void)closure;
-    if (specifier->judge.forced != NULL) return hold(specifier->judge.forced);
+    if (specifier->asked.forced != NULL) return hold(specifier->asked.forced);
     switch (early_of(specifier)) {
     case YES: return hold(Py_True);
     case NO: return hold(Py_False);
@@ -279,7 +300,7 @@ static PyObject *get_prereleases(PyObject *self, void *closure)
 int specifier_asks(PyObject *self)
 {
     Specifier *specifier = (Specifier *)self;
-    if (Py_TYPE(self) == specifier->judge.state->specifier_class && specifier->judge.forced == NULL) {
+    if (Py_TYPE(self) == specifier->judge.state->specifier_class && specifier->asked.forced == NULL) {
         int early = early_of(specifier);
         return early < 0 ? -1 : early == YES;
     }
@@ -295,7 +316,7 @@ static PyObject *specifier_reduce(PyObject *self, PyObject *nothing)
     Judge *judge = (Judge *)self;
     (void)nothing;
     if (Py_TYPE(self) != judge->state->specifier_class) return PyObject_CallMethod(self, "_reduced", NULL);
-    PyObject *text = specifier_text(self), *forced = hold(judge->forced);
+    PyObject *text = specifier_text(self), *forced = hold(said_of(judge));
     PyObject *arguments = text == NULL ? NULL : forced == NULL ? PyTuple_Pack(1, text) : PyTuple_Pack(2, text, forced);
     PyObject *reduced = arguments == NULL ? NULL : PyTuple_Pack(2, (PyObject *)Py_TYPE(self), arguments);
     Py_XDECREF(arguments);
@@ -347,8 +368,8 @@ static PyObject *specifier_copy(PyObject *self, PyObject *nothing)
     if (!take_pair((Specifier *)self, &pair)) return NULL;
     /* of the same text as the pair, whatever runs where the copy is made */
     unsigned char sign = judge->sign;
-    PyObject *forced = hold(judge->forced);
-    Specifier *copy = (Specifier *)new_judge(judge->state, Py_TYPE(self));
+    PyObject *forced = hold(said_of(judge));
+    Specifier *copy = new_specifier(judge->state, Py_TYPE(self));
     if (copy == NULL) {
         let_pair_go(&pair);
         let_go(forced);
@@ -358,7 +379,7 @@ static PyObject *specifier_copy(PyObject *self, PyObject *nothing)
     copy->version = pair.version;
     copy->judge.sign = sign;
     copy->judge.has_exact = sign == EXACT;
-    copy->judge.forced = forced;
+    copy->asked.forced = forced;
     return (PyObject *)copy;
 }
 
@@ -391,7 +412,7 @@ static PyMemberDef specifier_members[] = {
      PyDoc_STR("The operator.")},
     {"version", T_OBJECT_EX, offsetof(Specifier, version), READONLY,
      PyDoc_STR("The operand, as it is written.")},
-    {"_exact", T_OBJECT, offsetof(Specifier, judge.exact), 0, PyDoc_STR("What compares texts.")},
+    {"_exact", T_OBJECT, offsetof(Specifier, asked.exact), 0, PyDoc_STR("What compares texts.")},
     {NULL, 0, 0, 0, NULL},
 };
 
@@ -422,10 +443,10 @@ static PyType_Spec specifier_spec = {
 
 /* ---- the specifiers of a text ---- */
 
-static PyObject *specifier_of_span(State *state, const Span *span, const Text *view)
+static PyObject *specifier_of_span(State *state, const Span *span, PyObject *text, const Text *view)
 {
-    PyObject *one = (PyObject *)new_judge(state, state->specifier_class);
-    if (one != NULL && !give_span((Specifier *)one, span, view)) Py_CLEAR(one);
+    PyObject *one = (PyObject *)new_specifier(state, state->specifier_class);
+    if (one != NULL && !give_span((Specifier *)one, span, text, view)) Py_CLEAR(one);
     return one;
 }
 
@@ -441,7 +462,7 @@ PyObject *specifiers_of_text(State *state, PyObject *text)
     else
         raise_refusal(state, code, text, "specifier");
     for (size_t place = 0; items != NULL && place < spans.count; place++) {
-        PyObject *item = specifier_of_span(state, &spans.each[place], &view);
+        PyObject *item = specifier_of_span(state, &spans.each[place], text, &view);
         if (item == NULL || PyTuple_SetItem(items, (Py_ssize_t)place, item) < 0) Py_CLEAR(items);
     }
     spans_done(&spans);

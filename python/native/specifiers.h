@@ -4,52 +4,96 @@
 
 #include "native.h"
 
-/* What a specifier and a set begin with. */
+/* What a specifier and a set begin with; all but the pointers is one word, as a program may have many sets. */
 typedef struct {
     PyObject_HEAD
-    State *state;
-    /* empty until a version is judged */
-    pylock_set slot;
     union {
-        /* -1 until it was asked for */
-        Py_hash_t hash;
-        /* of one that waits for its end: the next that does */
+        State *state;
+        /* of one that waits for its end: the next that does, of the same state */
         PyObject *next;
     };
-    /* what was said of pre-releases, or NULL where nothing was */
-    PyObject *forced;
-    /* what the Python layer keeps here: what compares texts */
-    PyObject *exact;
-    bool is_set;
+    uint64_t is_set : 8;
     /* whether an operator is ===, which compares texts */
-    bool has_exact;
-    /* of a set: what `is_unsatisfiable` has found, a Told */
-    unsigned char unsatisfiable;
+    uint64_t has_exact : 8;
     /* of a specifier: the place of its operator, and whether its operand is a pre-release, a Told */
-    unsigned char sign, early;
+    uint64_t sign : 8, early : 2;
+    /* of a set: what `is_unsatisfiable` has found, a Told; and how many specifiers it has */
+    uint64_t unsatisfiable : 2, count : 36;
 } Judge;
+
+/* More specifiers than a memory has: a set that was joined of more counts so many. */
+#define MOST_COUNTED ((UINT64_C(1) << 36) - 1)
 
 /* What is known of a question. */
 enum { UNKNOWN, NO, YES, NONE };
 
+/* What becomes of a specifier or a set when it is asked for something. */
+typedef struct {
+    /* empty until a version is judged */
+    pylock_set slot;
+    /* -1 until it was asked for */
+    Py_hash_t hash;
+    /* what was said of pre-releases, or NULL where nothing was */
+    PyObject *forced;
+    /* what the Python layer keeps here: what compares texts */
+    PyObject *exact;
+} Asked;
+
 typedef struct {
     Judge judge;
+    Asked asked;
     /* the operator and the operand without white space: NULL until the specifier is read */
     PyObject *operator, *version;
     /* the operand in normal form: NULL until it was asked for */
     PyObject *normal;
 } Specifier;
 
+typedef struct {
+    Asked asked;
+    PyObject *items;
+    /* what `str` gives: NULL until it was asked for */
+    PyObject *shown;
+} SetAsked;
+
 /* A set has a text or its specifiers, or both; neither until it is read. Where sets were joined a part is a pair of what it
  * was made of, whose members are such parts again, until it is asked for: of the text, and of the specifiers, where a text
  * stands for those in it. */
 typedef struct {
     Judge judge;
-    PyObject *text, *items;
-    Py_ssize_t count;
-    /* what `str` gives: NULL until it was asked for */
-    PyObject *shown;
+    PyObject *text;
+    /* NULL until it is needed, and from then on there to the end of the set */
+    SetAsked *asked;
 } Set;
+
+/* What was asked for, or NULL where nothing was yet. */
+static inline Asked *asked_of(const Judge *judge)
+{
+    if (!judge->is_set) return &((Specifier *)judge)->asked;
+    return (Asked *)((Set *)judge)->asked;
+}
+
+/* The place for it: NULL with an exception. The memory of some that were let go of is kept for the next ones. */
+Asked *make_asked(Set *set);
+void free_asked(State *state, SetAsked *asked);
+
+static inline Asked *want_asked(Judge *judge)
+{
+    Asked *asked = asked_of(judge);
+    return asked == NULL ? make_asked((Set *)judge) : asked;
+}
+
+/* What was said of pre-releases: a borrowed reference, or NULL where nothing was. */
+static inline PyObject *said_of(const Judge *judge)
+{
+    const Asked *asked = asked_of(judge);
+    return asked == NULL ? NULL : asked->forced;
+}
+
+/* The specifiers of a set as far as they are there: a borrowed reference, or NULL. */
+static inline PyObject *items_in(const Set *set)
+{
+    return set->asked == NULL ? NULL : set->asked->items;
+}
 
 /* ---- where specifiers stand in a text ---- */
 
@@ -107,17 +151,17 @@ void forget_set(PyObject *self);
 
 /* The arguments of a call that makes one: positional, as mostly, or by their names. They are held. */
 bool take_judged(PyObject *arguments, PyObject *named, const char *format, char **words, PyObject **taken);
-Judge *new_judge(State *state, PyTypeObject *type);
-void say_forced(Judge *judge, PyObject *value);
+/* False with an exception where there is no place for it. */
+bool say_forced(Judge *judge, PyObject *value);
 /* The end of both: of those that hold one another in a row each ends within the end of the one before, so many at most, and
  * the next waits, as Python's own containers do. */
 void judge_dealloc(PyObject *self);
 
 PyObject *judge_admits(PyObject *self, PyObject *version);
 PyObject *judge_passes(PyObject *self, PyObject *item);
-/* Whether an item is in it, as `in` says, and whether the set's slot has its text. */
+/* Whether an item is in it, as `in` says; and the slot that has its text, or NULL with an exception. */
 int judge_in(PyObject *self, PyObject *item);
-bool fill_slot(Judge *judge);
+pylock_set *fill_slot(Judge *judge);
 /* Whether a text is a pre-release, a Told: NONE of a text that is no version, -1 with an exception. The same of a text or a
  * version. */
 int early_text(State *state, PyObject *text);
@@ -126,6 +170,8 @@ int early_item(State *state, PyObject *item);
 int judge_lets(Judge *judge, PyObject *item);
 bool judge_lets_all(const Judge *judge);
 PyObject *get_is_exact(PyObject *self, void *closure);
+PyObject *get_exact(PyObject *self, void *closure);
+int set_exact(PyObject *self, PyObject *value, void *closure);
 PyObject *get_forced(PyObject *self, void *closure);
 int set_forced(PyObject *self, PyObject *value, void *closure);
 PyObject *get_asks(PyObject *self, void *closure);

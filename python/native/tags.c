@@ -1,8 +1,8 @@
 /* Tags of wheels: three texts in lower case. */
 #include "native.h"
 
-/* Of tags that come again so many are kept, of texts that are no longer than this. */
-enum { PIECES = 3, MOST_TAGS = 4096, LONGEST_KEPT = 200 };
+/* Tags of longer texts aren't kept. */
+enum { PIECES = 3, LONGEST_KEPT = 200 };
 
 typedef struct {
     PyObject_HEAD
@@ -18,41 +18,18 @@ typedef struct {
 
 /* ---- texts in lower case ---- */
 
-/* Not 0 where one of eight bytes isn't ASCII, or is one of its capitals. */
+/* Finds bytes that aren't ASCII, and its capitals. */
 static inline uint64_t greater_of(uint64_t word)
 {
-    const uint64_t ones = 0x0101010101010101, high = 0x80 * ones, low = word & ~high;
     /* the high bit of each byte: set from 'A' on, and behind 'Z' */
-    uint64_t from_first = low + (0x80 - 'A') * ones, behind_last = low + (0x80 - 'Z' - 1) * ones;
-    return (word | (from_first & ~behind_last)) & high;
+    uint64_t from_first = word + (0x80 - 'A') * EACH_BYTE, behind_last = word + (0x80 - 'Z' - 1) * EACH_BYTE;
+    return word | (from_first & ~behind_last);
 }
 
-/* Copies fewer than eight bytes, and gives them in a word, in which some may stand twice. */
-static inline uint64_t last_word(uint8_t *out, const uint8_t *at, size_t length)
+/* Whether a text is ASCII without capitals: it is in lower case then, and most are. */
+static inline bool is_small(const uint8_t *text, size_t length)
 {
-    uint32_t first, last;
-    uint64_t word = 0;
-    if (length < sizeof first) {
-        for (size_t place = 0; place < length; place++) word = word << 8 | (out[place] = at[place]);
-        return word;
-    }
-    memcpy(&first, at, sizeof first);
-    memcpy(&last, at + length - sizeof last, sizeof last);
-    memcpy(out, &first, sizeof first);
-    memcpy(out + length - sizeof last, &last, sizeof last);
-    return (uint64_t)first << 32 | last;
-}
-
-/* Copies a text, and tells whether it is ASCII without capitals: it is in lower case then, and most are. */
-static inline bool copy_small(uint8_t *out, const uint8_t *at, size_t length)
-{
-    uint64_t found = 0, word;
-    for (; length >= sizeof word; out += sizeof word, at += sizeof word, length -= sizeof word) {
-        memcpy(&word, at, sizeof word);
-        memcpy(out, &word, sizeof word);
-        found |= greater_of(word);
-    }
-    return (found | greater_of(last_word(out, at, length))) == 0;
+    return has_none(text, length, greater_of);
 }
 
 /* What the method `lower` of another object than a text gives, which has to be one. */
@@ -95,7 +72,7 @@ static bool lower_pieces(PyObject *const *given, PyObject **pieces)
 
 /* A tag of its text, which is in lower case, whose reference it takes over, and of its pieces, or NULL where they aren't known.
  * Python mixes the hash of a text with a secret: who chooses tags can't make them fall together. */
-static PyObject *made_tag(State *state, PyTypeObject *type, PyObject *text, PyObject *const *pieces)
+static inline PyObject *made_tag(State *state, PyTypeObject *type, PyObject *text, PyObject *const *pieces)
 {
     Py_hash_t hash = text == NULL ? -1 : short_hash(text);
     Tag *tag = hash == -1 ? NULL : (Tag *)new_object_of(state, type, &state->spare_tags, sizeof(Tag));
@@ -110,74 +87,83 @@ static PyObject *made_tag(State *state, PyTypeObject *type, PyObject *text, PyOb
     return (PyObject *)tag;
 }
 
-/* Makes the letters of a short piece small, where it is ASCII without a dash. */
-static bool make_small(uint8_t *piece, size_t length)
+/* Three texts of a tuple with dashes between: NULL with an exception. */
+static PyObject *joined(PyObject *pieces)
 {
-    for (size_t place = 0; place < length; place++) {
-        if (piece[place] >= 0x80 || piece[place] == '-') return false;
-        if (piece[place] >= 'A' && piece[place] <= 'Z') piece[place] += 'a' - 'A';
-    }
-    return true;
-}
-
-/* The text of three exact str of a tuple that are short, in lower case; NULL, without an exception, of others. `is_given` is
- * whether they were in lower case already; where they weren't, the dashes of the text are those between them alone. */
-static PyObject *small_text(PyObject *tuple, PyObject **given, bool *is_given)
-{
-    uint8_t near[RESULT_ROOM];
-    size_t written = 0, begins[PIECES], lengths[PIECES];
-    *is_given = true;
-    for (int index = 0; index < PIECES; index++) {
-        Text text;
-        given[index] = PyTuple_GetItem(tuple, index);
-        if (!PyUnicode_CheckExact(given[index]) || !text_of(given[index], &text)) return NULL;
-        if (index > 0) near[written++] = '-';
-        bool has_room = text.length < RESULT_ROOM - written;
-        *is_given = has_room && copy_small(near + written, text.bytes, text.length) && *is_given;
-        begins[index] = written;
-        lengths[index] = text.length;
-        written += text.length;
-        text_done(&text);
-        if (!has_room) return NULL;
-    }
-    for (int index = 0; index < PIECES && !*is_given; index++)
-        if (!make_small(near + begins[index], lengths[index])) return NULL;
-    return PyUnicode_DecodeLatin1((const char *)near, (Py_ssize_t)written, NULL);
-}
-
-/* The bytes of three texts with dashes between, as a str. */
-static PyObject *joined(const Text *parts)
-{
-    uint8_t near[RESULT_ROOM];
-    size_t length = parts[0].length + parts[1].length + parts[2].length + 2, written = 0;
-    uint8_t *text = length <= RESULT_ROOM ? near : PyMem_Malloc(length);
-    if (text == NULL) return PyErr_NoMemory();
-    for (int index = 0; index < PIECES; index++) {
-        if (index > 0) text[written++] = '-';
-        memcpy(text + written, parts[index].bytes, parts[index].length);
-        written += parts[index].length;
-    }
-    PyObject *result = str_with_halves(text, length);
-    if (text != near) PyMem_Free(text);
-    return result;
-}
-
-static PyObject *joined_pieces(PyObject *const *pieces)
-{
-    Text parts[PIECES];
-    int count = 0;
-    while (count < PIECES && text_of(pieces[count], &parts[count])) count++;
-    PyObject *text = count == PIECES ? joined(parts) : NULL;
-    while (count > 0) text_done(&parts[--count]);
+    PyObject *dash = PyUnicode_FromString("-"), *text = dash == NULL ? NULL : PyUnicode_Join(dash, pieces);
+    Py_XDECREF(dash);
     return text;
 }
+
+/* Makes the letters of a text small, where it is ASCII of three pieces with dashes between. */
+static bool make_small(uint8_t *text, size_t length)
+{
+    int dashes = 0;
+    for (size_t place = 0; place < length; place++) {
+        if (text[place] >= 0x80) return false;
+        dashes += text[place] == '-';
+        if (text[place] >= 'A' && text[place] <= 'Z') text[place] += 'a' - 'A';
+    }
+    return dashes == PIECES - 1;
+}
+
+/* The text of three exact str of a tuple in lower case, where they are ASCII and short; NULL, maybe with an exception, of others.
+ * `is_given` is whether they were in lower case already; where they weren't, the dashes of the text are those between them
+ * alone. */
+#if NATIVE_IS_MODERN
+static inline PyObject *small_text(PyObject *tuple, PyObject **pieces, bool *is_given)
+{
+    uint8_t near[RESULT_ROOM];
+    size_t written = 0;
+    for (int index = 0; index < PIECES; index++) {
+        Py_ssize_t length = 0;
+        pieces[index] = PyTuple_GetItem(tuple, index);
+        const char *bytes = PyUnicode_CheckExact(pieces[index]) ? PyUnicode_AsUTF8AndSize(pieces[index], &length) : NULL;
+        if (bytes == NULL || (size_t)length >= RESULT_ROOM - written) {
+            PyErr_Clear();
+            return NULL;
+        }
+        memcpy(near + written, bytes, (size_t)length);
+        written += (size_t)length;
+        near[written++] = '-';
+    }
+    /* but the last dash */
+    written--;
+    *is_given = is_small(near, written);
+    if (!*is_given && !make_small(near, written)) return NULL;
+    return PyUnicode_DecodeLatin1((const char *)near, (Py_ssize_t)written, NULL);
+}
+#else
+/* The bytes of a text are an object of their own here, so they are asked for once. */
+static PyObject *small_text(PyObject *tuple, PyObject **pieces, bool *is_given)
+{
+    Text view;
+    uint8_t near[RESULT_ROOM];
+    for (int index = 0; index < PIECES; index++)
+        if (!PyUnicode_CheckExact(pieces[index] = PyTuple_GetItem(tuple, index))) return NULL;
+    PyObject *text = joined(tuple), *small = NULL;
+    if (text == NULL || !text_of(text, &view)) {
+        Py_XDECREF(text);
+        return NULL;
+    }
+    *is_given = is_small(view.bytes, view.length);
+    if (!*is_given && view.length <= RESULT_ROOM) {
+        memcpy(near, view.bytes, view.length);
+        if (make_small(near, view.length)) small = PyUnicode_DecodeLatin1((const char *)near, (Py_ssize_t)view.length, NULL);
+    }
+    text_done(&view);
+    if (*is_given) return text;
+    Py_DECREF(text);
+    return small;
+}
+#endif
 
 /* The tag of the arguments of a call. */
 static PyObject *tag_of_call(State *state, PyTypeObject *type, PyObject *arguments, PyObject *named)
 {
     static char *words[] = {"interpreter", "abi", "platform", NULL};
     PyObject *taken[MOST_TAKEN], *pieces[PIECES];
-    bool is_given, are_three = named == NULL && PyTuple_CheckExact(arguments) && PyTuple_Size(arguments) == PIECES;
+    bool is_given, are_three = named == NULL && PyTuple_Size(arguments) == PIECES;
     PyObject *text = are_three ? small_text(arguments, pieces, &is_given) : NULL;
     /* the arguments of the call, which holds them, become the pieces; others are cut from the text */
     if (text != NULL) return made_tag(state, type, text, is_given ? pieces : NULL);
@@ -185,7 +171,9 @@ static PyObject *tag_of_call(State *state, PyTypeObject *type, PyObject *argumen
     bool is_good = lower_pieces(taken, pieces);
     let_arguments_go(taken);
     if (!is_good) return NULL;
-    PyObject *tag = made_tag(state, type, joined_pieces(pieces), pieces);
+    PyObject *each = PyTuple_Pack(PIECES, pieces[0], pieces[1], pieces[2]);
+    PyObject *tag = made_tag(state, type, each == NULL ? NULL : joined(each), pieces);
+    Py_XDECREF(each);
     let_pieces_go(pieces, PIECES);
     return tag;
 }
@@ -229,8 +217,9 @@ static void tag_dealloc(PyObject *self)
 {
     Tag *tag = (Tag *)self;
     PyObject_GC_UnTrack(self);
-    for (int index = 0; index < PIECES; index++) Py_CLEAR(tag->pieces[index]);
-    Py_CLEAR(tag->text);
+    /* str, at whose end nothing runs */
+    for (int index = 0; index < PIECES; index++) Py_XDECREF(tag->pieces[index]);
+    Py_DECREF(tag->text);
     leave_object(self, &tag->state->spare_tags);
 }
 
@@ -385,48 +374,31 @@ static PyType_Spec tag_spec = {
 /* ---- tags of the names of wheels, which come again ---- */
 
 /* The tag of an exact str of three pieces, which are cut where one is asked for. */
-static PyObject *cut_tag(State *state, PyObject *text)
+static Tag *cut_tag(State *state, PyObject *text)
 {
     Text view;
-    uint8_t near[RESULT_ROOM];
     if (!text_of(text, &view)) return NULL;
-    bool is_small = view.length <= RESULT_ROOM && copy_small(near, view.bytes, view.length);
+    PyObject *small = is_small(view.bytes, view.length) ? hold(text) : lower(text);
     text_done(&view);
-    PyObject *small = is_small ? exact_text(text) : lower(text);
-    return made_tag(state, state->tag_class, small, NULL);
+    return (Tag *)made_tag(state, state->tag_class, small, NULL);
 }
 
-/* Whether a text of this hash came before: a tag that comes once isn't worth its place among those that are kept. */
-static bool came_before(State *state, Py_hash_t hash)
-{
-    Py_hash_t *seen = &state->seen_tags[(size_t)hash % MOST_SEEN_TAGS];
-    bool is_seen = *seen == hash;
-    *seen = hash;
-    return is_seen;
-}
-
-/* The tag of a text as one of those that are kept, or a new one, which is kept where it came before. Each is held. */
-static PyObject *kept_tag(State *state, PyObject *tags, PyObject *text)
-{
-    PyObject *tag = hold(PyDict_GetItemWithError(tags, text));
-    /* whoever got a tag may have given it another class */
-    if (tag != NULL && Py_TYPE(tag) == state->tag_class) return tag;
-    let_go(tag);
-    if (tag == NULL && PyErr_Occurred()) return NULL;
-    tag = cut_tag(state, text);
-    if (tag == NULL || !came_before(state, ((Tag *)tag)->hash)) return tag;
-    if (PyDict_Size(tags) >= MOST_TAGS) PyDict_Clear(tags);
-    if (PyDict_SetItem(tags, text, tag) < 0) Py_CLEAR(tag);
-    return tag;
-}
-
+/* The tag of a text as the one that is kept at its place, or a new one, which is kept there where it came last too: one that
+ * comes once isn't worth its place. */
 static PyObject *tag_of_text(State *state, PyObject *text)
 {
-    if (state->tags == NULL || PyUnicode_GetLength(text) > LONGEST_KEPT) return cut_tag(state, text);
-    PyObject *tags = hold(state->tags);
-    PyObject *tag = kept_tag(state, tags, text);
-    let_go(tags);
-    return tag;
+    Py_hash_t hash = short_hash(text);
+    KeptTag *place = &state->tags[(size_t)hash % MOST_TAGS];
+    Tag *kept = (Tag *)place->tag;
+    /* whoever got a tag may have given it another class */
+    if (kept != NULL && Py_TYPE(kept) == state->tag_class && kept->hash == hash && PyUnicode_Compare(kept->text, text) == 0)
+        return hold((PyObject *)kept);
+    Tag *tag = hash == -1 ? NULL : cut_tag(state, text);
+    if (tag == NULL) return NULL;
+    bool is_kept = place->seen == hash && tag->text == text && PyUnicode_GetLength(text) <= LONGEST_KEPT;
+    place->seen = hash;
+    if (is_kept) replace(&place->tag, (PyObject *)tag);
+    return (PyObject *)tag;
 }
 
 PyObject *tags_of(State *state, Record *record)
@@ -591,7 +563,7 @@ static PyMethodDef tag_functions[] = {
 
 bool add_tags(PyObject *module, State *state)
 {
-    if ((state->tags = PyDict_New()) == NULL || !add_type(module, "Tag", &state->tag, &tag_spec)) return false;
+    if (!add_type(module, "Tag", &state->tag, &tag_spec)) return false;
     state->tag_class = (PyTypeObject *)hold((PyObject *)state->tag);
     state->spare_tags.type = state->tag;
     return PyModule_AddFunctions(module, tag_functions) == 0;

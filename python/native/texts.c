@@ -157,11 +157,14 @@ static PyObject *field_with_escapes(const uint8_t *field, size_t length)
 
 PyObject *next_field(Record *record)
 {
-    Text field;
-    record->has_more = cut_text(&record->rest, '\t', &field);
-    if (field.length == 1 && field.bytes[0] == '-') return hold(Py_None);
-    bool has_escapes = memchr(field.bytes, '\\', field.length) != NULL;
-    return has_escapes ? field_with_escapes(field.bytes, field.length) : str_of(field.bytes, field.length);
+    const uint8_t *field = record->rest.bytes, *tab = memchr(field, '\t', record->rest.length);
+    size_t length = tab == NULL ? record->rest.length : (size_t)(tab - field);
+    record->has_more = tab != NULL;
+    record->rest.bytes += length + record->has_more;
+    record->rest.length -= length + record->has_more;
+    if (length == 1 && *field == '-') return hold(Py_None);
+    bool has_escapes = memchr(field, '\\', length) != NULL;
+    return has_escapes ? field_with_escapes(field, length) : str_of(field, length);
 }
 
 PyObject *fields_of(const uint8_t *bytes, size_t length)
@@ -288,6 +291,13 @@ static PyObject *new_refusal(PyObject *told, PyObject *message, PyObject *text)
     return exception;
 }
 
+/* Finds bytes that aren't ASCII, and those of ASCII that `repr` doesn't show as they are between quotes. */
+static inline uint64_t escaped_of(uint64_t word)
+{
+    uint64_t quote = word ^ '\'' * EACH_BYTE, backslash = word ^ '\\' * EACH_BYTE;
+    return word | (word + EACH_BYTE) | (word - ' ' * EACH_BYTE) | (quote - EACH_BYTE) | (backslash - EACH_BYTE);
+}
+
 /* Puts a text of ASCII behind others: false where there is no room, of another text, or with an exception. */
 static bool add_text(Result *message, PyObject *text)
 {
@@ -305,16 +315,14 @@ static bool add_quoted(Result *message, PyObject *text)
 {
     Text view;
     if (!PyUnicode_CheckExact(text) || !text_of(text, &view)) return false;
-    bool is_one = view.length + 2 <= RESULT_ROOM - message->length;
-    uint8_t *at = message->near + message->length;
-    if (is_one) *at++ = '\'';
-    for (size_t place = 0; is_one && place < view.length; place++) {
-        uint8_t letter = *at++ = view.bytes[place];
-        is_one = letter >= ' ' && letter <= '~' && letter != '\'' && letter != '\\';
+    bool is_one = view.length + 2 <= RESULT_ROOM - message->length && has_none(view.bytes, view.length, escaped_of);
+    if (is_one) {
+        uint8_t *at = message->near + message->length;
+        at[0] = at[view.length + 1] = '\'';
+        memcpy(at + 1, view.bytes, view.length);
+        message->length += view.length + 2;
     }
-    if (is_one) *at++ = '\'';
     text_done(&view);
-    message->length = (size_t)(at - message->near);
     return is_one;
 }
 

@@ -58,12 +58,20 @@ class DirectUrlValidationError(Exception):
         return "%s in %r" % (self.message, self.context) if self.context else self.message
 
 
+def _made(cause: Union[str, Exception], message: str, context: str) -> DirectUrlValidationError:
+    """An error as its constructor makes it of a cause, in less time."""
+    error = DirectUrlValidationError.__new__(DirectUrlValidationError, cause)
+    error.message = message
+    error.context = context
+    return error
+
+
 def _wrong(message: str, key: str, above: str) -> DirectUrlValidationError:
     """The error of a key. Where there is one above, that of an inner table, its cause is the error of the inner table alone."""
-    error = DirectUrlValidationError(message, context=key)
+    error = _made(message, message, key)
     if not above:
         return error
-    outer = DirectUrlValidationError(error, context=above)
+    outer = _made(error, message, above + "." + key)
     outer.__cause__ = outer.__context__ = error
     return outer
 

@@ -424,7 +424,8 @@ class Metadata:
         errors: List[Exception] = []
         known: Tuple[str, ...] = _VERSIONS
         given = self._raw.keys() | _REQUIRED
-        for name, field in [pair for pair in _FIELDS.items() if pair[0] in given]:
+        for name in [each for each in _FIELDS if each in given]:
+            field = _FIELDS[name]
             if field.since not in known:
                 message = "the field %r came with version %s of the metadata, not %s"
                 errors.append(InvalidMetadata(field.header, message % (field.header, field.since, known[-1])))
@@ -462,6 +463,8 @@ _BY_HEADER: Dict[str, _Field[Any]] = {field.header: field for field in _FIELDS.v
 
 # ---- reading ----
 
+_PARSER = email.parser.HeaderParser()
+
 
 def _decoded(text: str) -> Tuple[str, bool]:
     """The text that bytes mean, given as Latin-1, and whether they are UTF-8; if not, they stay."""
@@ -484,20 +487,27 @@ def parse_email(data: Union[bytes, str]) -> Tuple[RawMetadata, Dict[str, List[st
     """
     raw: Dict[str, Any] = {}
     unparsed: Dict[str, List[Any]] = {}
-    # each byte is a character to the reader of messages, which knows nothing of UTF-8
-    encoded = data.encode("utf-8", "surrogateescape") if isinstance(data, str) else data
-    message = email.parser.HeaderParser().parsestr(encoded.decode("latin-1"))
+    if not isinstance(data, str) or not data.isascii():
+        # each byte is a character to the reader of messages, which knows nothing of UTF-8
+        data = (data.encode("utf-8", "surrogateescape") if isinstance(data, str) else data).decode("latin-1")
+    message = _PARSER.parsestr(data)
     headers: Dict[str, List[str]] = {}
     broken = set()
     for header, text in message.raw_items():
         name = header.lower()
-        value, whole = _decoded(text)
-        headers.setdefault(name, []).append(value)
+        value, whole = (text, True) if text.isascii() else _decoded(text)
+        if name in headers:
+            headers[name].append(value)
+        else:
+            headers[name] = [value]
         if not whole:
             broken.add(name)
     for header, values in headers.items():
         field = _BY_HEADER.get(header)
-        value = field.raw(values) if field is not None and header not in broken else None
+        value = None
+        if field is not None and header not in broken:
+            # of most the one text as it is
+            value = values[0] if field.form == _TEXT and len(values) == 1 else field.raw(values)
         if field is None or value is None:
             unparsed[header] = values
         else:

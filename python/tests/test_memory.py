@@ -217,6 +217,18 @@ class Sizes(unittest.TestCase):
                                 for kind in (pylock.Requirement, peer("requirements").Requirement)]
                 self.assertLess(ours, theirs)
 
+    @needs(peer("requirements"))
+    def test_empty_sets(self):
+        """A set has no place for what it isn't asked for, nor has a requirement for the specifiers that it hasn't."""
+        sets, requirements = [(getattr(pylock, name), getattr(peer(module), name))
+                              for module, name in (("specifiers", "SpecifierSet"), ("requirements", "Requirement"))]
+        for kinds, forms in ((sets, ("",)), (requirements, ("name%d", "name @ https://example.com/%d"))):
+            for form in forms:
+                texts = [form % number if form else form for number in range(200)]
+                for ask in (lambda one: None, str, hash, lambda one: getattr(one, "prereleases", None)):
+                    ours, theirs = [self.size(lambda text, kind=kind: (lambda one: (one, ask(one))[0])(kind(text)), texts) for kind in kinds]
+                    self.assertLessEqual(ours, theirs * 1.01)
+
 
 if __name__ == "__main__":
     unittest.main()
