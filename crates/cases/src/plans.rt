@@ -1,10 +1,10 @@
 //! The commands over a lock and an environment: the JSON documents that they print, and what a
 //! strict reading refuses.
 
-use crate::runs::{Inputs, read_inputs, text_with_status};
+use crate::runs::{InputFiles, Inputs, read_inputs, text_with_status};
 use case_files::texts;
 use pylock_command::command;
-use pylock_program::perform;
+use pylock_program::{Host, Outputs, perform};
 use pylock_run::{Pieces, ToWrite};
 use std::alloc::{AllocError, Global};
 use toml::Table;
@@ -30,10 +30,15 @@ fn run(alloc: Global, inputs: &Inputs, words: &[&str]) -> anyhow::Result<String>
         return Ok(String::from_str(alloc, "refused by clap\n")?);
     };
     let (mut text, mut notes) = (Vec::new(alloc), Vec::new(alloc));
-    let mut reader = Pieces::new(b"", 1, None);
-    let mut writer = ToWrite::new(&mut text);
-    let mut beside = ToWrite::new(&mut notes);
-    let end = perform(alloc, task, inputs, &mut reader, &mut writer, &mut beside);
+    let mut host = Host {
+        files: InputFiles { inputs },
+        reader: Pieces::new(b"", 1, None),
+        outputs: Outputs {
+            writer: ToWrite::new(&mut text),
+            notes: ToWrite::new(&mut notes),
+        },
+    };
+    let end = perform(alloc, task, &mut host);
     let mut told = text_with_status(text, end)?;
     told.push_str(std::str::from_utf8(&notes)?)?;
     Ok(told)

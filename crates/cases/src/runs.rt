@@ -10,20 +10,26 @@ use toml::Table;
 /// The most bytes that a run asks for at once.
 const PIECE: usize = 65_536;
 
-/// The bytes of a lock and of an environment, which are files of these names too.
+/// The bytes of a lock and of an environment.
 #[derive(Drop)]
 pub(crate) struct Inputs {
     lock: Vec<u8>,
     environment: Vec<u8>,
 }
 
-impl Files for Inputs {
+/// The same as files of these names.
+#[derive(Drop)]
+pub(crate) struct InputFiles<'a> {
+    pub(crate) inputs: &'a Inputs,
+}
+
+impl<'a> Files for InputFiles<'a> {
     ghost read_gives = { λ _ _ _. Unit {0} };
 
     fn read(&self, path: &str) -> Result<Vec<u8>, FileFault> {
         match path {
-            "lock" => Ok(self.lock.clone()?),
-            "environment" => Ok(self.environment.clone()?),
+            "lock" => Ok(self.inputs.lock.clone()?),
+            "environment" => Ok(self.inputs.environment.clone()?),
             _ => Err(FileFault::Read),
         }
     }

@@ -1,7 +1,7 @@
 //! The task of the words of a command line.
 
 use case_files::texts;
-use pylock_command::{CommandError, Request, Task, command};
+use pylock_command::{CommandError, Opening, Output, Question, Task, command};
 use std::alloc::{AllocError, Global};
 use toml::Table;
 
@@ -14,7 +14,7 @@ pub(crate) fn answer_case(alloc: Global, case: &Table) -> anyhow::Result<String>
 
 fn task_text(alloc: Global, words: &[&str]) -> Result<String, AllocError> {
     match command(alloc, words) {
-        Ok(Task::Show(request)) => request_text(alloc, &request),
+        Ok(Task::Show(question)) => question_text(alloc, &question),
         Ok(task) => format!(in alloc; "{:?}", task),
         Err(CommandError::Refused(error)) => format!(in alloc; "refused {}", error.exit_code()),
         Err(CommandError::Memory) => String::from_str(alloc, "memory"),
@@ -22,9 +22,16 @@ fn task_text(alloc: Global, words: &[&str]) -> Result<String, AllocError> {
 }
 
 /// The task of `plan` or `explain`.
-fn request_text(alloc: Global, request: &Request<'_>) -> Result<String, AllocError> {
-    let (view, lock, machine) = (request.view, request.lock, request.machine);
-    let (choices, form) = (&request.choices, request.form);
-    let strict = if request.strict { "strict " } else { "" };
+fn question_text(alloc: Global, question: &Question<'_>) -> Result<String, AllocError> {
+    let Output::View(view, form) = question.output else {
+        return format!(in alloc; "{question:?}");
+    };
+    let Opening {
+        lock,
+        machine,
+        strict,
+    } = question.opening;
+    let choices = &question.choices;
+    let strict = if strict { "strict " } else { "" };
     format!(in alloc; "{strict}{view:?}({lock:?}, {machine:?}, {choices:?}, {form:?})")
 }

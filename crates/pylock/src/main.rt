@@ -14,7 +14,7 @@
 #![tactic(auto)]
 
 use pylock_command::{CommandError, Task, command};
-use pylock_program::{Failure, perform, terminal_note, words_failure};
+use pylock_program::{Failure, Host, Outputs, perform, terminal_note, words_failure};
 use pylock_run::{FileFault, Files, FromRead, Output, ToWrite, open_fault, read_file, write_all};
 use std::io::{IsTerminal, Write};
 use std::process::ExitCode;
@@ -63,15 +63,15 @@ fn note(rt: &HostRuntime, task: &Task<'_>) {
 /// Does the task on the files, standard input and standard output of the host.
 fn perform_here(rt: &HostRuntime, task: Task<'_>) -> Result<u8, Failure> {
     note(rt, &task);
-    let mut reader = FromRead::new(rt.stdin());
-    perform(
-        rt.alloc(),
-        task,
-        &HostFiles { rt },
-        &mut reader,
-        &mut output(rt, rt.stdout()),
-        &mut output(rt, rt.stderr()),
-    )
+    let mut host = Host {
+        files: HostFiles { rt },
+        reader: FromRead::new(rt.stdin()),
+        outputs: Outputs {
+            writer: output(rt, rt.stdout()),
+            notes: output(rt, rt.stderr()),
+        },
+    };
+    perform(rt.alloc(), task, &mut host)
 }
 
 /// The words of the command line.

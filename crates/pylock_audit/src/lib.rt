@@ -6,11 +6,12 @@
 //!
 //! ```rust
 //! match read_audited(alloc, lock) {
-//!     Ok((lock, found)) => {
-//!         let status = push_findings_in(alloc, out, form, found.as_slice())?;
-//! ..
-//!     Err(LockError::Memory) => Err(OpenError::Memory),
-//!     Err(error) => Err(OpenError::Lock(error)),
+//!     Ok((_, found)) => {
+//!         push_found(alloc, out, form, found.as_slice())?;
+//!         Ok(findings_status(found.as_slice()))
+//!     }
+//!     Err(LockError::Memory) => Err(AllocError),
+//!     Err(error) => push_refused_lock(alloc, out, form, error),
 //! }
 //! ```
 #![tactic(auto)]

@@ -1,13 +1,13 @@
 -- What a call leaves that starts a session on a lock that is taken strictly: the session in one
 -- slot, or why there is none in another.
-use Rattle.std.specs.Prelude.{◌≡◌, ℤ, pos, Option, Result, Ok, Err}
+use Rattle.std.specs.Prelude.{◌≡◌, ℤ, pos, Option, None, Result, Ok, Err}
 use Rattle.std.specs.Result.{result_map_both}
 use Rattle.pylock_command.specs.declared.form.Form.{Form}
 use Rattle.pylock_core.specs.Session.Judgement.{all_numbers}
 use Rattle.pylock_core.specs.Session.State.{State}
-use Rattle.pylock_program.specs.Show.{unopened_shown}
-use Rattle.pylock_program.specs.declared.strict.Unopened.{Unopened}
-use Rattle.pylock_program.specs.declared.strict.Unopened.TheVariants as unopened
+use Rattle.pylock_program.specs.Refusal.{unopened_told}
+use Rattle.pylock_program.specs.declared.opening.Unopened.{Unopened}
+use Rattle.pylock_program.specs.declared.opening.Unopened.TheVariants as unopened
 use Rattle.pylock_c.specs.Opening.{Leaves, open_refusal}
 use Rattle.pylock_c.specs.Refusal.{number}
 use Rattle.pylock_c.specs.Sessions.{session_at}
@@ -34,5 +34,5 @@ abbrev pub OpensStrictly : Form → Result Object Unopened → Option Object →
 OpensStrictly form (Ok object) old new words words' code =
     Leaves object (pos 0) old new code × (words' ≡ words)
 OpensStrictly form (Err unopened) old new words words' code =
-    Leaves (kind.Text (unopened_shown form unopened)) (number (unopened_refusal unopened))
+    Leaves (kind.Text (unopened_told form None unopened)) (number (unopened_refusal unopened))
     words words' code × (new ≡ old)

@@ -1,13 +1,13 @@
 //! Answers on a lock at once (PEP 751), what is told of a refused text, and the head of a lock.
 
-ghost use Rattle.std.specs.Prelude.{◌≡◌, [], Some};
+ghost use Rattle.std.specs.Prelude.{◌≡◌, Some, None};
 ghost use Rattle.pytext.specs.Agreement.{Gives};
-ghost use Rattle.pylock_program.specs.Show.{report_after, view_shown};
+ghost use Rattle.pylock_program.specs.Show.{opened_report};
 ghost use Rattle.pylock_run.specs.Report.{open_state};
+ghost use Rattle.pylock_command.specs.declared.task.FilesOutput.TheVariants.{Shown};
 ghost use Rattle.pylock_command.specs.declared.task.View.TheVariants.{Explain, Plan};
 ghost use Rattle.pylock_run.specs.declared.report.opening.OpenError.TheVariants as unopened;
-ghost use Rattle.pylock_program.specs.Reply.{reply};
-ghost use Rattle.pylock_program.specs.declared.reply.queries.Query.TheVariants as query;
+ghost use Rattle.pylock_program.specs.Reply.{audit_report, files_report};
 ghost use Rattle.pylock_c.specs.Answer.{Tells};
 ghost use Rattle.pylock_c.specs.Answers.{environment_read, form_of, head_of, reported};
 ghost use Rattle.pylock_c.specs.Opening.{Opens, Says};
@@ -23,7 +23,7 @@ use pylock_command::Form;
 use pylock_core::{EnvError, Lock, LockError, read_environment};
 use pylock_documents::{document, head_document};
 use pylock_messages::{environment_message, lock_message};
-use pylock_program::{Query, View, push_open_error, push_reply, push_view};
+use pylock_program::{View, push_audit, push_files, push_open_error, push_view};
 use pylock_run::{OpenError, open};
 use std::alloc::{AllocError, Global};
 
@@ -42,7 +42,7 @@ fn report(
     environment: &[u8],
 ) -> Result<(Object, i32), Refusal>
     ensures { Gives Memory (λ told. (Some told.0, told.1)) result (reported
-        (report_after form (view_shown view form) (open_state lock.now environment.now) [])) }
+        (opened_report view form (open_state lock.now environment.now))) }
 {
     let mut out = Vec::new(alloc);
     let status = match open(alloc, lock, environment) {
@@ -52,7 +52,7 @@ fn report(
         }
         Err(OpenError::Memory) => return Err(Refusal::Memory),
         Err(refusal) => {
-            push_open_error(alloc, &mut out, form, &refusal)?;
+            push_open_error(alloc, &mut out, form, &refusal, None)?;
             2
         }
     };
@@ -69,8 +69,8 @@ pub extern "C" fn pylock_plan(
     out: &mut Slot,
     status: &mut i32,
 ) -> i32
-    ensures { Tells (reported (report_after (form_of json) (view_shown Plan (form_of json))
-        (open_state lock.now environment.now) []))
+    ensures { Tells (reported (opened_report Plan (form_of json)
+        (open_state lock.now environment.now)))
         (object out.old, status.old) (object out.new, status.new) result }
 {
     let told = report(alloc, View::Plan, form_of(json), lock, environment);
@@ -88,20 +88,21 @@ pub extern "C" fn pylock_explain(
     out: &mut Slot,
     status: &mut i32,
 ) -> i32
-    ensures { Tells (reported (report_after (form_of json) (view_shown Explain (form_of json))
-        (open_state lock.now environment.now) []))
+    ensures { Tells (reported (opened_report Explain (form_of json)
+        (open_state lock.now environment.now)))
         (object out.old, status.old) (object out.new, status.new) result }
 {
     let told = report(alloc, View::Explain, form_of(json), lock, environment);
     keep_with(alloc, told, out, status)
 }
 
-/// The reply of a one-shot command, and its status.
-fn replied(alloc: Global, query: Query<'_>) -> Result<(Object, i32), Refusal>
-    ensures { Gives Memory (λ told. (Some told.0, told.1)) result (reported (reply query.entry)) }
+/// What `files` prints of a lock, and its status.
+fn files(alloc: Global, form: Form, lock: &[u8]) -> Result<(Object, i32), Refusal>
+    ensures { Gives Memory (λ told. (Some told.0, told.1)) result
+        (reported (files_report (Shown form) None lock.now)) }
 {
     let mut out = Vec::new(alloc);
-    let status = push_reply(alloc, &mut out, query, false)?;
+    let status = push_files(alloc, &mut out, form, lock)?;
     Ok((Object::Text(Bytes::new(out)), i32::from(status)))
 }
 
@@ -114,11 +115,21 @@ pub extern "C" fn pylock_files(
     out: &mut Slot,
     status: &mut i32,
 ) -> i32
-    ensures { Tells (reported (reply (query.Files lock.entry (form_of json))))
+    ensures { Tells (reported (files_report (Shown (form_of json)) None lock.now))
         (object out.old, status.old) (object out.new, status.new) result }
 {
-    let told = replied(alloc, Query::Files(lock, form_of(json)));
+    let told = files(alloc, form_of(json), lock);
     keep_with(alloc, told, out, status)
+}
+
+/// What `audit` prints of a lock, and its status.
+fn audit(alloc: Global, form: Form, lock: &[u8]) -> Result<(Object, i32), Refusal>
+    ensures { Gives Memory (λ told. (Some told.0, told.1)) result
+        (reported (audit_report form None lock.now)) }
+{
+    let mut out = Vec::new(alloc);
+    let status = push_audit(alloc, &mut out, form, lock)?;
+    Ok((Object::Text(Bytes::new(out)), i32::from(status)))
 }
 
 /// What a careful reader of a lock would be told, as `pylock audit` prints it, and its status.
@@ -130,10 +141,10 @@ pub extern "C" fn pylock_audit(
     out: &mut Slot,
     status: &mut i32,
 ) -> i32
-    ensures { Tells (reported (reply (query.Audit lock.entry (form_of json))))
+    ensures { Tells (reported (audit_report (form_of json) None lock.now))
         (object out.old, status.old) (object out.new, status.new) result }
 {
-    let told = replied(alloc, Query::Audit(lock, form_of(json)));
+    let told = audit(alloc, form_of(json), lock);
     keep_with(alloc, told, out, status)
 }
 

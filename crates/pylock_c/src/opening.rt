@@ -58,7 +58,7 @@ fn line(alloc: Global, refusal: &OpenError) -> Result<Object, AllocError>
     ensures { IfOk result (λ line. line ≡ kind.Text (refusal_text refusal.now)) }
 {
     let mut out = Vec::new(alloc);
-    push_open_error(alloc, &mut out, Form::Lines, refusal)?;
+    push_open_error(alloc, &mut out, Form::Lines, refusal, None)?;
     Ok(Object::Text(Bytes::new(out)))
 }
 

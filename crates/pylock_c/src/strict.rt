@@ -1,12 +1,12 @@
 //! Sessions on a lock that is taken strictly (PEP 751).
 
-ghost use Rattle.std.specs.Prelude.{◌≡◌, IfOk, Result};
+ghost use Rattle.std.specs.Prelude.{◌≡◌, IfOk, None, Result};
 ghost use Rattle.pytext.specs.Agreement.{Gives};
 ghost use Rattle.pylock_readers.specs.Environment.{env_of};
-ghost use Rattle.pylock_program.specs.Show.{unopened_shown};
-ghost use Rattle.pylock_program.specs.Strict.{strict_state};
-ghost use Rattle.pylock_program.specs.declared.strict.Unopened.{Unopened as NotOpened};
-ghost use Rattle.pylock_program.specs.declared.strict.Unopened.TheVariants as unopened;
+ghost use Rattle.pylock_program.specs.Refusal.{unopened_told};
+ghost use Rattle.pylock_program.specs.Opening.{strict_state};
+ghost use Rattle.pylock_program.specs.declared.opening.Unopened.{Unopened as NotOpened};
+ghost use Rattle.pylock_program.specs.declared.opening.Unopened.TheVariants as unopened;
 ghost use Rattle.pylock_run.specs.declared.report.opening.OpenError.TheVariants as refusal;
 ghost use Rattle.pylock_c.specs.Answers.{form_of};
 ghost use Rattle.pylock_c.specs.Slot.{object};
@@ -83,10 +83,10 @@ fn open_strictly_into(
 
 /// What is printed in place of a session, as a text to be kept.
 fn words_of(alloc: Global, form: Form, unopened: &Unopened) -> Result<Object, AllocError>
-    ensures { IfOk result (λ text. text ≡ kind.Text (unopened_shown form unopened.now)) }
+    ensures { IfOk result (λ text. text ≡ kind.Text (unopened_told form None unopened.now)) }
 {
     let mut out = Vec::new(alloc);
-    push_unopened(alloc, &mut out, form, unopened)?;
+    push_unopened(alloc, &mut out, form, unopened, None)?;
     Ok(Object::Text(Bytes::new(out)))
 }
 

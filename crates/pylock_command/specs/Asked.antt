@@ -2,80 +2,43 @@
 -- refused.
 use Rattle.std.specs.Prelude.{◌≡◌, List, [], ◌∷◌, Option, Some, None, codes, false, true}
 use Rattle.std.specs.Prelude.{if◌then◌else◌}
-use Rattle.clap.specs.Words.{Row, first_of}
+use Rattle.clap.specs.Words.{Row}
 use Rattle.pylock_command.specs.Choices.{AreChoices, has_choices}
-use Rattle.pylock_command.specs.Form.{file_format_misuse, file_format_named, form_of, format_at}
-use Rattle.pylock_command.specs.Form.{plan_format_misuse, plan_format_named}
+use Rattle.pylock_command.specs.Form.{IsOutput, form_of, output_misuse}
 use Rattle.pylock_command.specs.Machine.{IsMachine, machine_misuse, names_none, place_misuse}
 use Rattle.pylock_command.specs.Misuse.{first, lack}
 use Rattle.pylock_command.specs.Strict.{is_strict}
 use Rattle.pylock_command.specs.Texts.{HasText, input_misuse, inputs_misuse}
 use Rattle.pylock_command.specs.declared.misuse.Misuse.{Misuse}
 use Rattle.pylock_command.specs.declared.misuse.Misuse.TheVariants.{NoPlans}
-use Rattle.pylock_command.specs.declared.task.DiffRequest.{DiffRequest}
+use Rattle.pylock_command.specs.declared.task.Comparison.{Comparison}
 use Rattle.pylock_command.specs.declared.task.Installation.{Installation}
-use Rattle.pylock_command.specs.declared.task.ExportRequest.{ExportRequest}
-use Rattle.pylock_command.specs.declared.task.Request.{Request}
-use Rattle.pylock_command.specs.declared.task.Selection.{Selection}
-use Rattle.pylock_command.specs.declared.task.Task.{Task}
-use Rattle.pylock_command.specs.declared.task.Task.TheVariants.{ExportFiles, ExportPlan, Files}
-use Rattle.pylock_command.specs.declared.task.Task.TheVariants.{Show}
-use Rattle.pylock_command.specs.declared.task.View.TheVariants as view
+use Rattle.pylock_command.specs.declared.task.Opening.{Opening}
+use Rattle.pylock_command.specs.declared.task.Question.{Question}
+use Rattle.pylock_command.specs.declared.task.View.{View}
 
--- ---- `plan` and `explain`
+-- ---- `plan`, `explain` and `select`
 
-abbrev pub IsRequest : List Row → Request → Type 0
-IsRequest rows request = HasText rows (codes "LOCK") request.lock.now
-    × IsMachine (codes "ENV") rows request.machine × AreChoices rows request.choices.items
-    × (request.strict ≡ is_strict rows) × (request.form ≡ form_of rows)
+abbrev pub IsOpening : List Row → Opening → Type 0
+IsOpening rows opening = HasText rows (codes "LOCK") opening.lock.now
+    × IsMachine (codes "ENV") rows opening.machine × (opening.strict ≡ is_strict rows)
 
--- the words name a lock and a machine, of which one at most is standard input
-abbrev pub request_misuse : List Row → Option Misuse
-request_misuse rows = first (lack (codes "LOCK") rows ∷ machine_misuse rows
-    ∷ inputs_misuse (codes "LOCK") (codes "ENV") rows ∷ [])
+-- the words name a lock and a machine
+abbrev pub opening_misuse : List Row → Option Misuse
+opening_misuse rows = first (lack (codes "LOCK") rows ∷ machine_misuse rows ∷ [])
 
--- of `plan` for another tool
-abbrev pub IsExport : List Row → ExportRequest → Type 0
-IsExport rows export = HasText rows (codes "LOCK") export.lock.now
-    × IsMachine (codes "ENV") rows export.machine × AreChoices rows export.choices.items
-    × (export.strict ≡ is_strict rows) × (format_at plan_format_named rows ≡ Some export.format)
+abbrev pub IsQuestion : View → List Row → Question → Type 0
+IsQuestion view rows question = IsOpening rows question.opening
+    × AreChoices rows question.choices.items × IsOutput view rows question.output
 
--- the words ask for no form that another tool takes
-abbrev pub HasNoFormat : List Row → Type 0
-HasNoFormat rows = first_of (codes "format") rows ≡ None
+-- of `plan` and `explain` one of the two at most is standard input, and of `select` none
+abbrev pub question_misuse : View → List Row → Option Misuse
+question_misuse view rows = first (opening_misuse rows
+    ∷ inputs_misuse (codes "LOCK") (codes "ENV") rows ∷ output_misuse view rows ∷ [])
 
-abbrev pub IsPlan : List Row → Task → Type 0
-IsPlan rows (Show request) =
-    (request.view ≡ view.Plan) × IsRequest rows request × HasNoFormat rows
-IsPlan rows (ExportPlan export) = IsExport rows export
-IsPlan rows _ = ⊥
-
-abbrev pub plan_misuse : List Row → Option Misuse
-plan_misuse rows = first (request_misuse rows ∷ plan_format_misuse rows ∷ [])
-
--- ---- `select`
-
-abbrev pub IsSelection : List Row → Selection → Type 0
-IsSelection rows asked = HasText rows (codes "LOCK") asked.lock.now
-    × IsMachine (codes "ENV") rows asked.machine
-    × (asked.strict ≡ is_strict rows) × (asked.form ≡ form_of rows)
-
--- the words name a lock and a machine, of which none is standard input
-abbrev pub selection_misuse : List Row → Option Misuse
-selection_misuse rows = first (lack (codes "LOCK") rows ∷ machine_misuse rows
+abbrev pub select_misuse : List Row → Option Misuse
+select_misuse rows = first (opening_misuse rows
     ∷ input_misuse (codes "LOCK") rows ∷ input_misuse (codes "ENV") rows ∷ [])
-
--- ---- `files`
-
-abbrev pub IsFiles : List Row → Task → Type 0
-IsFiles rows (Files lock form) =
-    HasText rows (codes "LOCK") lock.now × (form ≡ form_of rows) × HasNoFormat rows
-IsFiles rows (ExportFiles lock format) = HasText rows (codes "LOCK") lock.now
-    × (format_at file_format_named rows ≡ Some format)
-IsFiles rows _ = ⊥
-
-abbrev pub files_misuse : List Row → Option Misuse
-files_misuse rows = first (lack (codes "LOCK") rows ∷ file_format_misuse rows ∷ [])
 
 -- ---- `diff`
 
@@ -90,14 +53,14 @@ installation_misuse rows =
     if names_none (codes "in") rows then (if has_choices rows then Some NoPlans else None)
     else place_misuse (codes "in") rows
 
-abbrev pub IsDiff : List Row → DiffRequest → Type 0
-IsDiff rows asked = HasText rows (codes "OLD") asked.old.now
+abbrev pub IsComparison : List Row → Comparison → Type 0
+IsComparison rows asked = HasText rows (codes "OLD") asked.old.now
     × HasText rows (codes "NEW") asked.new.now × IsInstallation rows asked.installation
     × (asked.form ≡ form_of rows)
 
 -- the words name two locks, and of all files one at most is standard input
-abbrev pub diff_misuse : List Row → Option Misuse
-diff_misuse rows = first (lack (codes "OLD") rows ∷ lack (codes "NEW") rows
+abbrev pub comparison_misuse : List Row → Option Misuse
+comparison_misuse rows = first (lack (codes "OLD") rows ∷ lack (codes "NEW") rows
     ∷ inputs_misuse (codes "OLD") (codes "NEW") rows
     ∷ inputs_misuse (codes "OLD") (codes "in") rows
     ∷ inputs_misuse (codes "NEW") (codes "in") rows ∷ installation_misuse rows ∷ [])

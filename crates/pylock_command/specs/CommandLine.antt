@@ -9,27 +9,28 @@ use Rattle.clap.specs.declared.error.Error.{Error}
 use Rattle.clap.specs.declared.error.kind.ErrorKind.TheVariants.{OutOfMemory}
 use Rattle.pylock_command.specs.Argument.{flag_rule, needed_rule, optional_rule, repeated_rule}
 use Rattle.pylock_command.specs.Argument.{single_rule, text_rule}
-use Rattle.pylock_command.specs.Asked.{HasNoFormat, IsDiff, IsExport, IsRequest}
-use Rattle.pylock_command.specs.Asked.{IsSelection, diff_misuse, files_misuse, plan_misuse}
-use Rattle.pylock_command.specs.Asked.{request_misuse, selection_misuse}
-use Rattle.pylock_command.specs.Form.{file_format_named, form_of, format_at}
+use Rattle.pylock_command.specs.Asked.{IsComparison, IsOpening, IsQuestion}
+use Rattle.pylock_command.specs.Asked.{comparison_misuse, question_misuse, select_misuse}
+use Rattle.pylock_command.specs.Form.{IsFilesOutput, files_output_misuse, form_of}
 use Rattle.pylock_command.specs.Machine.{IsMachine, IsTarget, machine_misuse, target_misuse}
 use Rattle.pylock_command.specs.Misuse.{first, kind_of_misuse, lack}
 use Rattle.pylock_command.specs.Subcommand.{Subcommand, row, subcommand_app}
 use Rattle.pylock_command.specs.Texts.{HasText}
 use Rattle.pylock_command.specs.declared.command_line.CommandError.{CommandError}
 use Rattle.pylock_command.specs.declared.command_line.CommandError.TheVariants.{Refused, Memory}
-use Rattle.pylock_command.specs.declared.form.Form.{Form}
 use Rattle.pylock_command.specs.declared.misuse.Misuse.{Misuse}
 use Rattle.pylock_command.specs.declared.misuse.Misuse.TheVariants.{Missing}
-use Rattle.pylock_command.specs.declared.task.Request.{Request}
+use Rattle.pylock_command.specs.declared.task.Output.{Output}
+use Rattle.pylock_command.specs.declared.task.Output.TheVariants.{View}
+use Rattle.pylock_command.specs.declared.task.Question.{Question}
 use Rattle.pylock_command.specs.declared.task.Task.{Task}
-use Rattle.pylock_command.specs.declared.task.Task.TheVariants.{Bare, Show, ExportPlan, Select}
-use Rattle.pylock_command.specs.declared.task.Task.TheVariants.{Files, ExportFiles, Audit, Diff}
-use Rattle.pylock_command.specs.declared.task.Task.TheVariants.{Environment, Version, Match, Name}
-use Rattle.pylock_command.specs.declared.task.Task.TheVariants.{Marker, Requirement, Wheel, Sdist}
-use Rattle.pylock_command.specs.declared.task.View.{View}
-use Rattle.pylock_command.specs.declared.task.View.TheVariants as view
+use Rattle.pylock_command.specs.declared.task.Task.TheVariants.{Audit, Bare, Diff, Environment}
+use Rattle.pylock_command.specs.declared.task.Task.TheVariants.{Files, Marker, Select, Show}
+use Rattle.pylock_command.specs.declared.task.Task.TheVariants as task
+use Rattle.pylock_command.specs.declared.task.TextQuestion.{TextQuestion}
+use Rattle.pylock_command.specs.declared.task.TextQuestion.TheVariants.{Match, Name, Requirement}
+use Rattle.pylock_command.specs.declared.task.TextQuestion.TheVariants.{Sdist, Version, Wheel}
+use Rattle.pylock_command.specs.declared.task.View.TheVariants.{Explain, Plan}
 
 -- `pylock`, which tells its version
 abbrev pub top_app : App
@@ -68,7 +69,11 @@ format = single_rule (codes "format")
 
 -- ---- the subcommands
 
--- the words of these have all their texts, and of `marker` name a machine
+-- the words of these have all their texts, of `files` no word but that of a form, and of `marker`
+-- they name a machine
+abbrev pub files_misuse : List Row → Option Misuse
+files_misuse rows = first (lack (codes "LOCK") rows ∷ files_output_misuse rows ∷ [])
+
 abbrev pub match_misuse : List Row → Option Misuse
 match_misuse rows = first (lack (codes "SET") rows ∷ lack (codes "VERSION") rows ∷ [])
 
@@ -85,14 +90,14 @@ text_row name = row name (text_rule (codes "TEXT") ∷ json ∷ []) (lack (codes
 abbrev pub subcommands : List Subcommand
 subcommands =
     row (codes "plan") (locked (machine_rules ++ choice_rules ++ strict ∷ format ∷ json ∷ []))
-    plan_misuse
+    (question_misuse Plan)
     ∷ row (codes "explain") (locked (machine_rules ++ choice_rules ++ strict ∷ json ∷ []))
-    request_misuse
-    ∷ row (codes "select") (locked (machine_rules ++ strict ∷ json ∷ [])) selection_misuse
+    (question_misuse Explain)
+    ∷ row (codes "select") (locked (machine_rules ++ strict ∷ json ∷ [])) select_misuse
     ∷ row (codes "files") (locked (format ∷ json ∷ [])) files_misuse
     ∷ row (codes "audit") (locked (json ∷ [])) (lack (codes "LOCK"))
     ∷ row (codes "diff") (text_rule (codes "OLD") ∷ text_rule (codes "NEW") ∷ in_rules
-    ++ choice_rules ++ json ∷ []) diff_misuse
+    ++ choice_rules ++ json ∷ []) comparison_misuse
     ∷ row (codes "environment")
     (needed_rule (codes "python") ∷ needed_rule (codes "platform") ∷ []) target_misuse
     ∷ text_row (codes "version")
@@ -120,44 +125,44 @@ misuse_of (Some found) = misuse_in found.0 found.1
 abbrev pub IsIn : Option (Text × List Row) → Text → (List Row → Type 0) → Type 0
 IsIn found name Are = IsSomeAnd found (λ p. (p.0 ≡ name) × Are p.1)
 
--- the subcommand has one text, and an answer in this form
-abbrev pub IsAsked : Option (Text × List Row) → Text → Text → Text → Form → Type 0
-IsAsked found name id text form =
-    IsIn found name (λ rows. HasText rows id text × (form ≡ form_of rows))
+-- what is asked about a text by itself
+abbrev pub IsTextQuestion : Text → List Row → TextQuestion → Type 0
+IsTextQuestion name rows (Version text) =
+    (name ≡ codes "version") × HasText rows (codes "TEXT") text.now
+IsTextQuestion name rows (Match set version) = (name ≡ codes "match")
+    × HasText rows (codes "SET") set.now × HasText rows (codes "VERSION") version.now
+IsTextQuestion name rows (Name text) = (name ≡ codes "name") × HasText rows (codes "TEXT") text.now
+IsTextQuestion name rows (Requirement text) =
+    (name ≡ codes "requirement") × HasText rows (codes "TEXT") text.now
+IsTextQuestion name rows (Wheel text) =
+    (name ≡ codes "wheel") × HasText rows (codes "TEXT") text.now
+IsTextQuestion name rows (Sdist text) =
+    (name ≡ codes "sdist") × HasText rows (codes "TEXT") text.now
 
--- `plan` or `explain` in a form of the program's own
-abbrev pub IsShown : Option (Text × List Row) → Request → View → Type 0
-IsShown found request view.Plan =
-    IsIn found (codes "plan") (λ rows. IsRequest rows request × HasNoFormat rows)
-IsShown found request view.Explain =
-    IsIn found (codes "explain") (λ rows. IsRequest rows request)
+-- `plan` or `explain`, by how the answer is printed
+abbrev pub IsShown : Option (Text × List Row) → Question → Output → Type 0
+IsShown found question (View Explain form) =
+    IsIn found (codes "explain") (λ rows. IsQuestion Explain rows question)
+IsShown found question _ = IsIn found (codes "plan") (λ rows. IsQuestion Plan rows question)
 
 -- the task that the words give
 abbrev pub IsTask : Option (Text × List Row) → Task → Type 0
 IsTask found Bare = found ≡ None
-IsTask found (Show request) = IsShown found request request.view
-IsTask found (ExportPlan export) = IsIn found (codes "plan") (λ rows. IsExport rows export)
-IsTask found (Select asked) = IsIn found (codes "select") (λ rows. IsSelection rows asked)
-IsTask found (Files lock form) = IsIn found (codes "files") (λ rows.
-    HasText rows (codes "LOCK") lock.now × (form ≡ form_of rows) × HasNoFormat rows)
-IsTask found (ExportFiles lock format) = IsIn found (codes "files") (λ rows.
-    HasText rows (codes "LOCK") lock.now × (format_at file_format_named rows ≡ Some format))
-IsTask found (Audit lock form) = IsAsked found (codes "audit") (codes "LOCK") lock.now form
-IsTask found (Diff asked) = IsIn found (codes "diff") (λ rows. IsDiff rows asked)
+IsTask found (Show question) = IsShown found question question.output
+IsTask found (Select opening form) =
+    IsIn found (codes "select") (λ rows. IsOpening rows opening × (form ≡ form_of rows))
+IsTask found (Files lock output) = IsIn found (codes "files")
+    (λ rows. HasText rows (codes "LOCK") lock.now × IsFilesOutput rows output)
+IsTask found (Audit lock form) = IsIn found (codes "audit")
+    (λ rows. HasText rows (codes "LOCK") lock.now × (form ≡ form_of rows))
+IsTask found (Diff comparison) = IsIn found (codes "diff") (λ rows. IsComparison rows comparison)
 IsTask found (Environment target) =
     IsIn found (codes "environment") (λ rows. IsTarget rows target)
-IsTask found (Version text form) = IsAsked found (codes "version") (codes "TEXT") text.now form
-IsTask found (Match set version form) = IsIn found (codes "match") (λ rows.
-    HasText rows (codes "SET") set.now × HasText rows (codes "VERSION") version.now
-    × (form ≡ form_of rows))
-IsTask found (Name text form) = IsAsked found (codes "name") (codes "TEXT") text.now form
 IsTask found (Marker text machine form) = IsIn found (codes "marker") (λ rows.
     HasText rows (codes "TEXT") text.now × IsMachine (codes "ENV") rows machine
     × (form ≡ form_of rows))
-IsTask found (Requirement text form) =
-    IsAsked found (codes "requirement") (codes "TEXT") text.now form
-IsTask found (Wheel text form) = IsAsked found (codes "wheel") (codes "TEXT") text.now form
-IsTask found (Sdist text form) = IsAsked found (codes "sdist") (codes "TEXT") text.now form
+IsTask found (task.Text question form) =
+    IsSomeAnd found (λ p. IsTextQuestion p.0 p.1 question × (form ≡ form_of p.1))
 
 -- ---- refusals
 

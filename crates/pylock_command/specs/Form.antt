@@ -1,5 +1,5 @@
 -- The form of an answer, in clap's terms.
-use Rattle.std.specs.Prelude.{◌&&◌, if◌then◌else◌, List, [], ◌∷◌, Option, Some, None, codes}
+use Rattle.std.specs.Prelude.{◌≡◌, ◌&&◌, if◌then◌else◌, List, [], ◌∷◌, Option, Some, None, codes}
 use Rattle.std.specs.Prelude.{is_some, option_and_then, option_map}
 use Rattle.std.specs.Str.{bytes_eq}
 use Rattle.clap.specs.Words.{Row, Text, first_of}
@@ -15,6 +15,12 @@ use Rattle.pylock_command.specs.declared.form.PlanFormat.TheVariants.{Requiremen
 use Rattle.pylock_command.specs.declared.misuse.Misuse.{Misuse}
 use Rattle.pylock_command.specs.declared.misuse.Misuse.TheVariants.{NoFileFormat, NoPlanFormat}
 use Rattle.pylock_command.specs.declared.misuse.Misuse.TheVariants.{TwoForms}
+use Rattle.pylock_command.specs.declared.task.FilesOutput.{FilesOutput}
+use Rattle.pylock_command.specs.declared.task.FilesOutput.TheVariants as files
+use Rattle.pylock_command.specs.declared.task.Output.{Output}
+use Rattle.pylock_command.specs.declared.task.Output.TheVariants as output
+use Rattle.pylock_command.specs.declared.task.View.{View}
+use Rattle.pylock_command.specs.declared.task.View.TheVariants.{Explain, Plan}
 
 -- the form that the words ask for: one JSON document where they have the flag, and else lines
 abbrev pub form_of : List Row → Form
@@ -33,24 +39,39 @@ plan_format_named word =
     else (if bytes_eq word (codes "requirements-local") then Some RequirementsLocal
     else option_map Files (file_format_named word))
 
--- the form of that kind that the words ask for, if any
-abbrev pub format_at : {F : Type 0} → (Text → Option F) → List Row → Option F
-format_at named rows = option_and_then named (first_of (codes "format") rows)
+-- the word of the form that another tool takes, and the form, if the words ask for one
+abbrev pub format_word : List Row → Option Text
+format_word rows = first_of (codes "format") rows
 
--- such a form is asked for without JSON, and by its word
+abbrev pub format_at : {F : Type 0} → (Text → Option F) → List Row → Option F
+format_at named rows = option_and_then named (format_word rows)
+
+-- how an answer is printed: as another tool takes it where `plan` or `files` is asked for that
+abbrev pub IsOutput : View → List Row → Output → Type 0
+IsOutput Plan rows (output.Tool format) = format_at plan_format_named rows ≡ Some format
+IsOutput Plan rows shown = (shown ≡ output.View Plan (form_of rows)) × (format_word rows ≡ None)
+IsOutput Explain rows shown = shown ≡ output.View Explain (form_of rows)
+
+abbrev pub IsFilesOutput : List Row → FilesOutput → Type 0
+IsFilesOutput rows (files.Tool format) = format_at file_format_named rows ≡ Some format
+IsFilesOutput rows (files.Shown form) = (form ≡ form_of rows) × (format_word rows ≡ None)
+
+-- a form that another tool takes is asked for without JSON, and by its word
 abbrev pub word_misuse : List Row → Option Misuse
 word_misuse rows =
-    if is_some (first_of (codes "format") rows) && has_flag (codes "json") rows then Some TwoForms
-    else None
+    if is_some (format_word rows) && has_flag (codes "json") rows then Some TwoForms else None
 
 abbrev pub unknown : {F : Type 0} → Misuse → Option Text → Option F → Option Misuse
 unknown misuse (Some word) None = Some misuse
 unknown misuse word format = None
 
-abbrev pub plan_format_misuse : List Row → Option Misuse
-plan_format_misuse rows = first (word_misuse rows
-    ∷ unknown NoPlanFormat (first_of (codes "format") rows) (format_at plan_format_named rows) ∷ [])
+abbrev pub format_misuse : {F : Type 0} → (Text → Option F) → Misuse → List Row → Option Misuse
+format_misuse named misuse rows = first (
+    word_misuse rows ∷ unknown misuse (format_word rows) (format_at named rows) ∷ [])
 
-abbrev pub file_format_misuse : List Row → Option Misuse
-file_format_misuse rows = first (word_misuse rows
-    ∷ unknown NoFileFormat (first_of (codes "format") rows) (format_at file_format_named rows) ∷ [])
+abbrev pub output_misuse : View → List Row → Option Misuse
+output_misuse Plan rows = format_misuse plan_format_named NoPlanFormat rows
+output_misuse Explain rows = None
+
+abbrev pub files_output_misuse : List Row → Option Misuse
+files_output_misuse rows = format_misuse file_format_named NoFileFormat rows

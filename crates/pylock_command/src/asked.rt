@@ -1,112 +1,78 @@
 //! What the subcommands with several arguments are asked, by what clap found.
-ghost use Rattle.std.specs.Prelude.{◌≡◌, IfOk};
+ghost use Rattle.std.specs.Prelude.{IfOk};
 ghost use Rattle.clap.specs.Words.{found_of, rows_of};
-ghost use Rattle.pylock_command.specs.Asked.{IsDiff, IsFiles, IsInstallation, IsPlan};
-ghost use Rattle.pylock_command.specs.Asked.{IsRequest, IsSelection, diff_misuse};
-ghost use Rattle.pylock_command.specs.Asked.{files_misuse, installation_misuse, plan_misuse};
-ghost use Rattle.pylock_command.specs.Asked.{request_misuse, selection_misuse};
+ghost use Rattle.pylock_command.specs.Asked.{IsComparison, IsInstallation, IsOpening};
+ghost use Rattle.pylock_command.specs.Asked.{IsQuestion, comparison_misuse, installation_misuse};
+ghost use Rattle.pylock_command.specs.Asked.{opening_misuse, question_misuse, select_misuse};
 ghost use Rattle.pylock_command.specs.Misuse.{Refuses, RefusesUnless};
 
 use crate::choices::choices_of;
-use crate::form::{file_format_of, form_of, plan_format_of};
+use crate::form::{form_of, output_of};
 use crate::machine::{machine_of, place_of};
 use crate::misuse::{Misuse, NoTask};
 use crate::strict::is_strict;
-use crate::task::{DiffRequest, ExportRequest, Installation, Request, Selection, Task, View};
+use crate::task::{Comparison, Installation, Opening, Question, View};
 use crate::texts::{judge_input, judge_inputs, text_of};
 use clap::ArgMatches;
 use std::alloc::Global;
 
-/// The task of `plan`: its answer is for a person, or for another tool.
-pub(crate) fn plan_of<'a>(alloc: Global, found: &ArgMatches<'a>) -> Result<Task<'a>, NoTask>
-    ensures task { IfOk result (IsPlan (rows_of (found_of found.now))) }
-    ensures refused { RefusesUnless (plan_misuse (rows_of (found_of found.now))) result }
-{
-    let request = request_of(alloc, View::Plan, found)?;
-    match plan_format_of(found)? {
-        None => Ok(Task::Show(request)),
-        Some(format) => {
-            let Request {
-                lock,
-                machine,
-                choices,
-                strict,
-                ..
-            } = request;
-            Ok(Task::ExportPlan(ExportRequest {
-                lock,
-                machine,
-                choices,
-                strict,
-                format,
-            }))
-        }
-    }
-}
-
 /// What `plan` or `explain` is asked.
-pub(crate) fn request_of<'a>(
+pub(crate) fn question_of<'a>(
     alloc: Global,
     view: View,
     found: &ArgMatches<'a>,
-) -> Result<Request<'a>, NoTask>
-    ensures view { IfOk result (λ request. request.view ≡ view) }
-    ensures request { IfOk result (IsRequest (rows_of (found_of found.now))) }
-    ensures refused { RefusesUnless (request_misuse (rows_of (found_of found.now))) result }
+) -> Result<Question<'a>, NoTask>
+    ensures question { IfOk result (IsQuestion view (rows_of (found_of found.now))) }
+    ensures refused { RefusesUnless (question_misuse view (rows_of (found_of found.now))) result }
 {
-    let lock = text_of(found, "LOCK")?;
-    let machine = machine_of(found)?;
+    let opening = opening_of(found)?;
     judge_inputs(found, "LOCK", "ENV")?;
-    Ok(Request {
-        view,
-        lock,
-        machine,
-        choices: choices_of(alloc, found)?,
-        strict: is_strict(found),
-        form: form_of(found),
+    let choices = choices_of(alloc, found)?;
+    let output = output_of(view, found)?;
+    Ok(Question {
+        opening,
+        choices,
+        output,
     })
 }
 
-/// What `select` is asked.
-pub(crate) fn selection_of<'a>(found: &ArgMatches<'a>) -> Result<Selection<'a>, Misuse>
-    ensures selection { IfOk result (IsSelection (rows_of (found_of found.now))) }
-    ensures refused { Refuses (selection_misuse (rows_of (found_of found.now))) result }
+/// What the session of `select` is opened on.
+pub(crate) fn select_of<'a>(found: &ArgMatches<'a>) -> Result<Opening<'a>, Misuse>
+    ensures opening { IfOk result (IsOpening (rows_of (found_of found.now))) }
+    ensures refused { Refuses (select_misuse (rows_of (found_of found.now))) result }
 {
-    let lock = text_of(found, "LOCK")?;
-    let machine = machine_of(found)?;
+    let opening = opening_of(found)?;
     judge_input(found, "LOCK")?;
     judge_input(found, "ENV")?;
-    Ok(Selection {
-        lock,
-        machine,
-        strict: is_strict(found),
-        form: form_of(found),
-    })
+    Ok(opening)
 }
 
-/// The task of `files`: its answer is for a person, or for another tool.
-pub(crate) fn files_of<'a>(found: &ArgMatches<'a>) -> Result<Task<'a>, Misuse>
-    ensures task { IfOk result (IsFiles (rows_of (found_of found.now))) }
-    ensures refused { Refuses (files_misuse (rows_of (found_of found.now))) result }
+/// What a session is opened on, of which nothing has judged yet where standard input is read.
+fn opening_of<'a>(found: &ArgMatches<'a>) -> Result<Opening<'a>, Misuse>
+    ensures opening { IfOk result (IsOpening (rows_of (found_of found.now))) }
+    ensures refused { Refuses (opening_misuse (rows_of (found_of found.now))) result }
 {
-    let lock = text_of(found, "LOCK")?;
-    match file_format_of(found)? {
-        None => Ok(Task::Files(lock, form_of(found))),
-        Some(format) => Ok(Task::ExportFiles(lock, format)),
-    }
+    Ok(Opening {
+        lock: text_of(found, "LOCK")?,
+        machine: machine_of(found)?,
+        strict: is_strict(found),
+    })
 }
 
 /// What `diff` is asked.
-pub(crate) fn diff_of<'a>(alloc: Global, found: &ArgMatches<'a>) -> Result<DiffRequest<'a>, NoTask>
-    ensures diff { IfOk result (IsDiff (rows_of (found_of found.now))) }
-    ensures refused { RefusesUnless (diff_misuse (rows_of (found_of found.now))) result }
+pub(crate) fn comparison_of<'a>(
+    alloc: Global,
+    found: &ArgMatches<'a>,
+) -> Result<Comparison<'a>, NoTask>
+    ensures comparison { IfOk result (IsComparison (rows_of (found_of found.now))) }
+    ensures refused { RefusesUnless (comparison_misuse (rows_of (found_of found.now))) result }
 {
     let old = text_of(found, "OLD")?;
     let new = text_of(found, "NEW")?;
     judge_inputs(found, "OLD", "NEW")?;
     judge_inputs(found, "OLD", "in")?;
     judge_inputs(found, "NEW", "in")?;
-    Ok(DiffRequest {
+    Ok(Comparison {
         old,
         new,
         installation: installation_of(alloc, found)?,

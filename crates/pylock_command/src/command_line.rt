@@ -8,13 +8,13 @@ ghost use Rattle.pylock_command.specs.Commands.{Adds, IsCommand, IsLocal};
 ghost use Rattle.pylock_command.specs.Misuse.{RefusesUnless, kind_of_misuse};
 ghost use Rattle.pylock_command.specs.Subcommand.{with_usage};
 
-use crate::asked::{diff_of, files_of, plan_of, request_of, selection_of};
-use crate::form::form_of;
+use crate::asked::{comparison_of, question_of, select_of};
+use crate::form::{files_output_of, form_of};
 use crate::help::ABOUT;
 use crate::machine::{machine_of, target_of};
 use crate::misuse::{Misuse, NoTask};
 use crate::subcommand::{SUBCOMMANDS, Usage, called, subcommand};
-use crate::task::{Task, View};
+use crate::task::{Task, TextQuestion, View};
 use crate::texts::text_of;
 use clap::error::ErrorKind;
 use clap::{ArgMatches, Command};
@@ -58,7 +58,7 @@ impl From<clap::Error> for CommandError {
 ///
 /// No source can hold the sum of itself. So 64 characters stand in its place, and where a build is
 /// kept `tools/built stamp` writes the sum over them. No contract speaks of this text.
-const VERSION: &str = "1.6.0
+const VERSION: &str = "1.7.0
 sources (not told: rt built it; ./pylock and tools/release tell the sum), \
 proved in logic dac8208d650f15bf";
 
@@ -129,25 +129,25 @@ fn task_in<'a>(alloc: Global, name: &str, found: &ArgMatches<'a>) -> Result<Task
     ensures task { IfOk result (IsTask (Some (name.now, rows_of (found_of found.now)))) }
     ensures refused { RefusesUnless (misuse_in name.now (rows_of (found_of found.now))) result }
 {
+    let form = form_of(found);
     Ok(match name {
-        "plan" => plan_of(alloc, found)?,
-        "explain" => Task::Show(request_of(alloc, View::Explain, found)?),
-        "select" => Task::Select(selection_of(found)?),
-        "files" => files_of(found)?,
-        "audit" => Task::Audit(text_of(found, "LOCK")?, form_of(found)),
-        "diff" => Task::Diff(diff_of(alloc, found)?),
+        "plan" => Task::Show(question_of(alloc, View::Plan, found)?),
+        "explain" => Task::Show(question_of(alloc, View::Explain, found)?),
+        "select" => Task::Select(select_of(found)?, form),
+        "files" => Task::Files(text_of(found, "LOCK")?, files_output_of(found)?),
+        "audit" => Task::Audit(text_of(found, "LOCK")?, form),
+        "diff" => Task::Diff(comparison_of(alloc, found)?),
         "environment" => Task::Environment(target_of(found)?),
-        "version" => Task::Version(text_of(found, "TEXT")?, form_of(found)),
-        "match" => Task::Match(
-            text_of(found, "SET")?,
-            text_of(found, "VERSION")?,
-            form_of(found),
+        "version" => Task::Text(TextQuestion::Version(text_of(found, "TEXT")?), form),
+        "match" => Task::Text(
+            TextQuestion::Match(text_of(found, "SET")?, text_of(found, "VERSION")?),
+            form,
         ),
-        "name" => Task::Name(text_of(found, "TEXT")?, form_of(found)),
-        "marker" => Task::Marker(text_of(found, "TEXT")?, machine_of(found)?, form_of(found)),
-        "requirement" => Task::Requirement(text_of(found, "TEXT")?, form_of(found)),
-        "wheel" => Task::Wheel(text_of(found, "TEXT")?, form_of(found)),
-        "sdist" => Task::Sdist(text_of(found, "TEXT")?, form_of(found)),
+        "name" => Task::Text(TextQuestion::Name(text_of(found, "TEXT")?), form),
+        "marker" => Task::Marker(text_of(found, "TEXT")?, machine_of(found)?, form),
+        "requirement" => Task::Text(TextQuestion::Requirement(text_of(found, "TEXT")?), form),
+        "wheel" => Task::Text(TextQuestion::Wheel(text_of(found, "TEXT")?), form),
+        "sdist" => Task::Text(TextQuestion::Sdist(text_of(found, "TEXT")?), form),
         _ => return Err(NoTask::Misused(Misuse::Missing)),
     })
 }

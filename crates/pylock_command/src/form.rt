@@ -1,13 +1,14 @@
-//! In which form an answer is printed, and the arguments that ask for it.
-ghost use Rattle.std.specs.Prelude.{◌≡◌, IfOk, codes, option_map};
-ghost use Rattle.clap.specs.Words.{first_of, found_of, rows_of};
-ghost use Rattle.pylock_command.specs.Form.{file_format_named, file_format_misuse, form_of};
-ghost use Rattle.pylock_command.specs.Form.{format_at, plan_format_misuse, plan_format_named};
-ghost use Rattle.pylock_command.specs.Form.{word_misuse};
+//! How an answer is printed, and the arguments that ask for it.
+ghost use Rattle.std.specs.Prelude.{◌≡◌, IfOk, option_map};
+ghost use Rattle.clap.specs.Words.{found_of, rows_of};
+ghost use Rattle.pylock_command.specs.Form.{IsFilesOutput, IsOutput, file_format_named};
+ghost use Rattle.pylock_command.specs.Form.{files_output_misuse, form_of, format_word};
+ghost use Rattle.pylock_command.specs.Form.{output_misuse, plan_format_named, word_misuse};
 ghost use Rattle.pylock_command.specs.Misuse.{Refuses};
 
 use crate::argument::{Argument, Kind};
 use crate::misuse::Misuse;
+use crate::task::{FilesOutput, Output, View};
 use crate::texts::{has_flag, text_at};
 use clap::ArgMatches;
 
@@ -20,25 +21,27 @@ pub enum Form {
     Json,
 }
 
-/// A form of files that tools of others take.
+/// A form for a tool that takes files, whatever is done with them.
 #[derive(Clone, Copy, Debug, PartialEq, Eq)]
 pub enum FileFormat {
     /// For `sha256sum -c`.
     Sha256sum,
     /// For `aria2c -i`.
     Aria2,
-    /// A URL on each line.
+    /// For `wget -i`, and whatever reads a URL on each line.
     Urls,
 }
 
-/// A form of a plan that tools of others take.
+/// A form of a plan for another tool.
 #[derive(Clone, Copy, Debug, PartialEq, Eq)]
 pub enum PlanFormat {
-    /// What has hashes, for `pip install -r`.
+    /// A requirements file of what has hashes, wheels, sdists and archives, for
+    /// `pip install --no-deps -r` and `uv pip install --no-deps -r`.
     Requirements,
-    /// The rest, for a second `pip install -r`.
+    /// A second one of the rest, checkouts and directories: pip takes no requirement without a
+    /// hash beside one that has a hash.
     RequirementsLocal,
-    /// One of its files.
+    /// A list of its files.
     Files(FileFormat),
 }
 
@@ -77,32 +80,34 @@ pub(crate) fn form_of(found: &ArgMatches<'_>) -> Form
     }
 }
 
-/// The form that a tool takes, where `plan` is asked for one.
-pub(crate) fn plan_format_of(found: &ArgMatches<'_>) -> Result<Option<PlanFormat>, Misuse>
-    ensures format { IfOk result (λ format. format
-        ≡ format_at plan_format_named (rows_of (found_of found.now))) }
-    ensures refused { Refuses (plan_format_misuse (rows_of (found_of found.now))) result }
+/// How the answer of `plan` or `explain` is printed.
+pub(crate) fn output_of(view: View, found: &ArgMatches<'_>) -> Result<Output, Misuse>
+    ensures output { IfOk result (IsOutput view (rows_of (found_of found.now))) }
+    ensures refused { Refuses (output_misuse view (rows_of (found_of found.now))) result }
 {
-    let Some(word) = format_word(found)? else {
-        return Ok(None);
+    let word = match view {
+        View::Plan => format_word(found)?,
+        View::Explain => None,
+    };
+    let Some(word) = word else {
+        return Ok(Output::View(view, form_of(found)));
     };
     match plan_format_named(word) {
-        Some(format) => Ok(Some(format)),
+        Some(format) => Ok(Output::Tool(format)),
         None => Err(Misuse::NoPlanFormat),
     }
 }
 
-/// The form that a tool takes, where `files` is asked for one.
-pub(crate) fn file_format_of(found: &ArgMatches<'_>) -> Result<Option<FileFormat>, Misuse>
-    ensures format { IfOk result (λ format. format
-        ≡ format_at file_format_named (rows_of (found_of found.now))) }
-    ensures refused { Refuses (file_format_misuse (rows_of (found_of found.now))) result }
+/// How the answer of `files` is printed.
+pub(crate) fn files_output_of(found: &ArgMatches<'_>) -> Result<FilesOutput, Misuse>
+    ensures output { IfOk result (IsFilesOutput (rows_of (found_of found.now))) }
+    ensures refused { Refuses (files_output_misuse (rows_of (found_of found.now))) result }
 {
     let Some(word) = format_word(found)? else {
-        return Ok(None);
+        return Ok(FilesOutput::Shown(form_of(found)));
     };
     match file_format_named(word) {
-        Some(format) => Ok(Some(format)),
+        Some(format) => Ok(FilesOutput::Tool(format)),
         None => Err(Misuse::NoFileFormat),
     }
 }
@@ -110,7 +115,7 @@ pub(crate) fn file_format_of(found: &ArgMatches<'_>) -> Result<Option<FileFormat
 /// The word of a form, which stands alone.
 fn format_word<'a>(found: &ArgMatches<'a>) -> Result<Option<&'a str>, Misuse>
     ensures word { IfOk result (λ word. option_map (λ word. word.now) word
-        ≡ first_of (codes "format") (rows_of (found_of found.now))) }
+        ≡ format_word (rows_of (found_of found.now))) }
     ensures refused { Refuses (word_misuse (rows_of (found_of found.now))) result }
 {
     let word = text_at(found, "format");

@@ -170,12 +170,12 @@ answer is the document of plan --json, and that of a refused line N is
 Status: 0, the last answer is a plan and no line was refused; 1, otherwise;
 2, the lock, the environment or the command line is refused; 3, a line on
 standard error says why it ended early:
-  pylock: file    a file can't be read or has more than 268,435,456 bytes
-  pylock: read    a read of standard input failed
-  pylock: write   a write to standard output failed
-  pylock: input   the input has more than 1,000,000 lines or more than
-                  268,435,456 bytes
-  pylock: memory  memory ran out";
+  pylock: file: PATH: WHY  a file can't be read
+  pylock: read             a read of standard input failed
+  pylock: write            a write to standard output failed
+  pylock: input            the input has more than 1,000,000 lines or more than
+                           268,435,456 bytes
+  pylock: memory           memory ran out";
 
 pub(crate) const FILES: &str = "\
 Example:

@@ -6,7 +6,7 @@
 //!
 //! ```rust
 //! match command(alloc, words) {
-//!     Ok(Task::Show(request)) => request_text(alloc, &request),
+//!     Ok(Task::Show(question)) => question_text(alloc, &question),
 //!     Ok(task) => format!(in alloc; "{:?}", task),
 //!     Err(CommandError::Refused(error)) => format!(in alloc; "refused {}", error.exit_code()),
 //!     Err(CommandError::Memory) => String::from_str(alloc, "memory"),
@@ -32,4 +32,6 @@ pub use choice::Choice;
 pub use command_line::{CommandError, command};
 pub use form::{FileFormat, Form, PlanFormat};
 pub use machine::{Machine, TargetWords};
-pub use task::{DiffRequest, ExportRequest, Installation, Request, Selection, Task, View};
+pub use task::{
+    Comparison, FilesOutput, Installation, Opening, Output, Question, Task, TextQuestion, View,
+};

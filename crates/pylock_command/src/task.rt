@@ -13,49 +13,44 @@ pub enum View {
     Explain,
 }
 
-/// What `plan` and `explain` are asked.
-#[derive(Debug, Drop)]
-pub struct Request<'a> {
-    /// What is shown.
-    pub view: View,
+/// How the answer of `plan` or `explain` is printed.
+#[derive(Clone, Copy, Debug, PartialEq, Eq)]
+pub enum Output {
+    /// What is shown, in a form.
+    View(View, Form),
+    /// The plan in a form that another tool takes.
+    Tool(PlanFormat),
+}
+
+/// How the sources of a lock are printed.
+#[derive(Clone, Copy, Debug, PartialEq, Eq)]
+pub enum FilesOutput {
+    /// Every source, in a form.
+    Shown(Form),
+    /// The files in a form that another tool takes.
+    Tool(FileFormat),
+}
+
+/// A lock for a machine: what a session is opened on.
+#[derive(Clone, Copy, Debug)]
+pub struct Opening<'a> {
     /// The path of the lock, of which `-` is standard input.
     pub lock: &'a str,
     /// The machine. Where it is that of a file, one of the two paths at most is `-`.
     pub machine: Machine<'a>,
-    /// The options.
-    pub choices: Vec<Choice<'a>>,
     /// Whether the lock is taken only where nothing is found in it that a strict reading refuses.
     pub strict: bool,
-    /// The form of the answer.
-    pub form: Form,
 }
 
-/// What `plan` is asked where its answer is for another tool.
+/// What `plan` and `explain` are asked.
 #[derive(Debug, Drop)]
-pub struct ExportRequest<'a> {
-    /// The path of the lock, as that of a [`Request`].
-    pub lock: &'a str,
-    /// The machine, as that of a [`Request`].
-    pub machine: Machine<'a>,
+pub struct Question<'a> {
+    /// The lock and the machine.
+    pub opening: Opening<'a>,
     /// The options.
     pub choices: Vec<Choice<'a>>,
-    /// Whether the lock is taken strictly, as that of a [`Request`].
-    pub strict: bool,
-    /// The form that the tool takes.
-    pub format: PlanFormat,
-}
-
-/// What `select` is asked.
-#[derive(Clone, Copy, Debug)]
-pub struct Selection<'a> {
-    /// The path of the lock, which isn't `-`.
-    pub lock: &'a str,
-    /// The machine. The path of a file isn't `-`.
-    pub machine: Machine<'a>,
-    /// Whether the lock is taken strictly, as that of a [`Request`].
-    pub strict: bool,
-    /// The form of each answer.
-    pub form: Form,
+    /// How the answer is printed.
+    pub output: Output,
 }
 
 /// For which machine two locks are compared, and with which options.
@@ -69,7 +64,7 @@ pub struct Installation<'a> {
 
 /// What `diff` is asked.
 #[derive(Debug, Drop)]
-pub struct DiffRequest<'a> {
+pub struct Comparison<'a> {
     /// The path of the old lock, of which `-` is standard input.
     pub old: &'a str,
     /// The path of the new lock. Of all paths of a comparison one at most is `-`.
@@ -80,39 +75,44 @@ pub struct DiffRequest<'a> {
     pub form: Form,
 }
 
+/// What is asked about a text by itself.
+#[derive(Clone, Copy, Debug)]
+pub enum TextQuestion<'a> {
+    /// The normal form of a version (PEP 440).
+    Version(&'a str),
+    /// Whether a specifier set, which stands first, admits a version (PEP 440).
+    Match(&'a str, &'a str),
+    /// The normal form of a name (PEP 503).
+    Name(&'a str),
+    /// The parts of a requirement (PEP 508).
+    Requirement(&'a str),
+    /// The parts of a wheel's file name (PEP 427).
+    Wheel(&'a str),
+    /// The name and the version in an sdist's file name (PEP 625).
+    Sdist(&'a str),
+}
+
 /// What the program is asked to do. Of a path `-` is standard input.
 #[derive(Debug, Drop)]
 pub enum Task<'a> {
     /// No subcommand.
     Bare,
     /// `plan` or `explain`, with what it is asked.
-    Show(Request<'a>),
-    /// `plan` with `--format`, with what it is asked.
-    ExportPlan(ExportRequest<'a>),
-    /// `select`, with what it is asked.
-    Select(Selection<'a>),
-    /// `files`, with the path of the lock, and the form of the answer.
-    Files(&'a str, Form),
-    /// `files` with `--format`, with the path of the lock, and the form that the tool takes.
-    ExportFiles(&'a str, FileFormat),
+    Show(Question<'a>),
+    /// `select`, with what the session is opened on, of which no path is `-`, and the form of each
+    /// answer.
+    Select(Opening<'a>, Form),
+    /// `files`, with the path of the lock, and how its sources are printed.
+    Files(&'a str, FilesOutput),
     /// `audit`, with the path of the lock, and the form of the answer.
     Audit(&'a str, Form),
     /// `diff`, with what it is asked.
-    Diff(DiffRequest<'a>),
+    Diff(Comparison<'a>),
     /// `environment`, with the words of the target.
     Environment(TargetWords<'a>),
-    /// `version`, with the text of a version, and the form of the answer.
-    Version(&'a str, Form),
-    /// `match`, with the texts of a specifier set and of a version, and the form of the answer.
-    Match(&'a str, &'a str, Form),
-    /// `name`, with the text of a name, and the form of the answer.
-    Name(&'a str, Form),
     /// `marker`, with the text of a marker, the machine, and the form of the answer.
     Marker(&'a str, Machine<'a>, Form),
-    /// `requirement`, with the text of a requirement, and the form of the answer.
-    Requirement(&'a str, Form),
-    /// `wheel`, with the file name of a wheel, and the form of the answer.
-    Wheel(&'a str, Form),
-    /// `sdist`, with the file name of a source distribution, and the form of the answer.
-    Sdist(&'a str, Form),
+    /// `version`, `match`, `name`, `requirement`, `wheel` or `sdist`, with what is asked about a
+    /// text, and the form of the answer.
+    Text(TextQuestion<'a>, Form),
 }

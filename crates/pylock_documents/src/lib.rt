@@ -8,8 +8,8 @@
 //!
 //! ```rust
 //! match form {
-//!     Form::Lines => push_files(alloc, out, entries)?,
-//!     Form::Json => push_document(alloc, out, files_document(alloc, entries)?)?,
+//!     Form::Lines => push_entries(alloc, out, entries),
+//!     Form::Json => push_document(alloc, out, files_document(alloc, entries)?),
 //! }
 //! ```
 #![tactic(auto)]

@@ -6,7 +6,7 @@ use Rattle.pylock_exports.specs.Inner.Behind.{part_behind, parts_behind}
 use Rattle.pylock_exports.specs.Listed.{ListedValue}
 use Rattle.pylock_exports.specs.Requirements.{header, is_in, part_of, requirement_check, requirement_line, requirements_lines, source_requirements}
 use Rattle.pylock_exports.specs.Texts.{lines_text}
-use Rattle.pylock_exports.specs.declared.format.PlanPart.{PlanPart}
+use Rattle.pylock_exports.specs.declared.requirements.PlanPart.{PlanPart}
 use Rattle.pylock_exports.specs.declared.refusal.ExportError.{ExportError}
 
 -- a text, and behind it a line and what was made of more

@@ -3,8 +3,8 @@ use Rattle.std.proofs.Common.{◌≡◌, ◌∙◌, ℕ, Bool, true, false, not,
 use Rattle.pylock_exports.specs.Listed.{ListedValue, is_unhashed}
 use Rattle.pylock_exports.specs.Requirements.{Deals, deals_none, deals_one, deals_other, header, part_of, requirement_line}
 use Rattle.pylock_exports.specs.Texts.{format_lines}
-use Rattle.pylock_exports.specs.declared.format.Format.TheVariants as format
-use Rattle.pylock_exports.specs.declared.format.PlanPart.TheVariants.{Hashed, Local}
+use Rattle.pylock_command.specs.declared.form.PlanFormat.TheVariants as format
+use Rattle.pylock_exports.specs.declared.requirements.PlanPart.TheVariants.{Hashed, Local}
 use Rattle.pylock_exports.proofs.LineLemmas.{requirement_each}
 
 abbrev lines : List ListedValue → List (List ℕ)

@@ -10,21 +10,21 @@ use Rattle.pylock_exports.specs.Inner.Kept.{Holds}
 use Rattle.pylock_exports.specs.Listed.{ListedValue}
 use Rattle.pylock_exports.specs.Lists.{is_left, key_of, list_check, value_named, value_of, with_source}
 use Rattle.pylock_exports.specs.Refusals.{at_number, other_value}
-use Rattle.pylock_exports.specs.declared.format.ListFormat.{ListFormat}
+use Rattle.pylock_command.specs.declared.form.FileFormat.{FileFormat}
 
 -- ---- what is made of it
 
-pub kept_new : (form : ListFormat) (kept : List ListedValue) (s : ListedValue) → is_left form s.source ≡ false
+pub kept_new : (form : FileFormat) (kept : List ListedValue) (s : ListedValue) → is_left form s.source ≡ false
     → at_number s.number (list_check form s.source) ≡ Ok tt → value_named form (key_of form s.source) kept ≡ None
     → with_source form kept s ≡ Ok (kept ++ s ∷ [])
 kept_new form kept s listed taken none = rw (listed, taken, none) refl
 
-pub kept_same : (form : ListFormat) (kept : List ListedValue) (s : ListedValue) (value : List ℕ) → is_left form s.source ≡ false
+pub kept_same : (form : FileFormat) (kept : List ListedValue) (s : ListedValue) (value : List ℕ) → is_left form s.source ≡ false
     → at_number s.number (list_check form s.source) ≡ Ok tt → value_named form (key_of form s.source) kept ≡ Some value
     → bytes_eq value (value_of form s.source) ≡ true → with_source form kept s ≡ Ok kept
 kept_same form kept s value listed taken some same = rw (listed, taken, some, same) refl
 
-pub kept_other : (form : ListFormat) (kept : List ListedValue) (s : ListedValue) (value : List ℕ) → is_left form s.source ≡ false
+pub kept_other : (form : FileFormat) (kept : List ListedValue) (s : ListedValue) (value : List ℕ) → is_left form s.source ≡ false
     → at_number s.number (list_check form s.source) ≡ Ok tt → value_named form (key_of form s.source) kept ≡ Some value
     → bytes_eq value (value_of form s.source) ≡ false → with_source form kept s ≡ Err (other_value s.number)
 kept_other form kept s value listed taken some other = rw (listed, taken, some, other) refl
@@ -47,7 +47,7 @@ first_more : (shown : ListedValue → List ℕ) (is : Bool) (k : ListedValue) (m
 first_more shown true k more left last other same = refl
 first_more shown false k more left last other same = same
 
-pub named_more : (form : ListFormat) (key : List ℕ) (kept : List ListedValue) (s : ListedValue)
+pub named_more : (form : FileFormat) (key : List ℕ) (kept : List ListedValue) (s : ListedValue)
     → value_named form key (kept ++ s ∷ []) ≡ later (value_named form key kept) (bytes_eq key (key_of form s.source)) (value_of form s.source)
 named_more form key [] s = by (bytes_eq key (key_of form s.source))
   where
@@ -62,7 +62,7 @@ named_more form key (k ∷ kept) s =
 abbrev Found : Type 0
 Found = List ℕ → Option (Bor (List ℕ))
 
-pub holds_more : (form : ListFormat) (old new : Found) (kept : List ListedValue) (s : ListedValue) (key : List ℕ) (value : Bor (List ℕ))
+pub holds_more : (form : FileFormat) (old new : Found) (kept : List ListedValue) (s : ListedValue) (key : List ℕ) (value : Bor (List ℕ))
     → key ≡ key_of form s.source → value.now ≡ value_of form s.source
     → ((q : List ℕ) → new q ≡ update bytes_eq old key (Some value) q)
     → value_named form key kept ≡ None → Holds form old kept → Holds form new (kept ++ s ∷ [])

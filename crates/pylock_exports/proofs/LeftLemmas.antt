@@ -2,13 +2,13 @@
 use Rattle.std.proofs.Common.{◌≡◌, ◌∙◌, ℕ, ◌+◌, ◌-◌, ◌≤◌, ◌<◌, Bool, true, false, cond, List, [], ◌∷◌, ◌++◌, arith, length, map, take, refl, sym, ap, append_assoc, append-nil, length-append, suc, zero}
 use Rattle.pylock_exports.specs.Listed.{ListedValue}
 use Rattle.pylock_exports.specs.Texts.{entry_of, is_left_out, left_sources}
-use Rattle.pylock_exports.specs.declared.format.Format.{Format}
+use Rattle.pylock_command.specs.declared.form.PlanFormat.{PlanFormat}
 
 abbrev Entries : Type 0
 Entries = List (ℕ × List ℕ)
 
 -- the first of these, and those of more, as many as are left to name
-abbrev pub with_left : Format → Entries → List ListedValue → Entries
+abbrev pub with_left : PlanFormat → Entries → List ListedValue → Entries
 with_left form first sources = first ++ take (5 - length first) (map entry_of (left_sources form sources))
 
 take_none : {X : Type 0} (n : ℕ) (xs : List X) → xs ≡ [] → take n xs ≡ []
@@ -30,7 +30,7 @@ taken first x more (suc room) is =
     ∙ ap (λ l. (first ++ l) ++ take (5 - length (first ++ l)) more) (sym one)
 
 -- one more source
-pub left_more : (form : Format) (first new : Entries) (s : ListedValue) (rest : List ListedValue)
+pub left_more : (form : PlanFormat) (first new : Entries) (s : ListedValue) (rest : List ListedValue)
     → new ≡ first ++ cond (is_left_out form s.source) (take (5 - length first) (entry_of s ∷ [])) [] → with_left form new rest ≡ with_left form first (s ∷ rest)
 left_more form first new s rest is = ap (λ n. with_left form n rest) is ∙ by (is_left_out form s.source)
   where

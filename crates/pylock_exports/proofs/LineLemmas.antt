@@ -24,12 +24,12 @@ use Rattle.pylock_exports.proofs.OnceLemmas.{all_from}
 use Rattle.pylock_exports.proofs.SplitLemmas.{behind_found, joined_five, web_found}
 use Rattle.pylock_exports.specs.declared.class.Class.{Class}
 use Rattle.pylock_exports.specs.declared.class.Class.TheVariants as class
-use Rattle.pylock_exports.specs.declared.format.Format.{Format}
-use Rattle.pylock_exports.specs.declared.format.Format.TheVariants as format
-use Rattle.pylock_exports.specs.declared.format.ListFormat.{ListFormat}
-use Rattle.pylock_exports.specs.declared.format.ListFormat.TheVariants.{Sha256sum, Aria2, Urls}
-use Rattle.pylock_exports.specs.declared.format.PlanPart.{PlanPart}
-use Rattle.pylock_exports.specs.declared.format.PlanPart.TheVariants.{Hashed, Local}
+use Rattle.pylock_command.specs.declared.form.PlanFormat.{PlanFormat}
+use Rattle.pylock_command.specs.declared.form.PlanFormat.TheVariants as format
+use Rattle.pylock_command.specs.declared.form.FileFormat.{FileFormat}
+use Rattle.pylock_command.specs.declared.form.FileFormat.TheVariants.{Sha256sum, Aria2, Urls}
+use Rattle.pylock_exports.specs.declared.requirements.PlanPart.{PlanPart}
+use Rattle.pylock_exports.specs.declared.requirements.PlanPart.TheVariants.{Hashed, Local}
 use Rattle.pylock_exports.specs.declared.refusal.ExportError.{ExportError}
 use Rattle.pylock_exports.specs.declared.refusal.Field.{Field}
 use Rattle.pylock_exports.specs.declared.refusal.Field.TheVariants as field
@@ -217,7 +217,7 @@ file_is name file project is_name taken =
     located_line name file.location.url file.location.path None (hashes_option file.hashes) is_name one.0 refl (hashes_are file.hashes one.1)
 
 -- the form that has a line of a source
-abbrev form_of : PlanPart → Format
+abbrev form_of : PlanPart → PlanFormat
 form_of Hashed = format.Requirements
 form_of Local = format.RequirementsLocal
 
@@ -276,18 +276,18 @@ part_are part sources lines made = requirements_are part (part_of part sources) 
 
 -- ---- lines of lists
 
-abbrev AreTaken : ListFormat → List ListedValue → Type 0
+abbrev AreTaken : FileFormat → List ListedValue → Type 0
 AreTaken form kept = AllByRecursion (λ s. list_check form s.source ≡ Ok tt) kept
 
-itself : (form : ListFormat) (sources : List ListedValue) → AllByRecursion (λ s. list_check form s.source ≡ Ok tt → list_check form s.source ≡ Ok tt) sources
+itself : (form : FileFormat) (sources : List ListedValue) → AllByRecursion (λ s. list_check form s.source ≡ Ok tt → list_check form s.source ≡ Ok tt) sources
 itself form [] = tt
 itself form (s ∷ sources) = (λ is. is, itself form sources)
 
-all_kept : (form : ListFormat) (sources all : List ListedValue) → with_sources form [] sources ≡ Ok all → AreTaken form all
+all_kept : (form : FileFormat) (sources all : List ListedValue) → with_sources form [] sources ≡ Ok all → AreTaken form all
 all_kept form sources all made = all_from (λ s. list_check form s.source ≡ Ok tt) form sources [] all tt (itself form sources) made
 
-abbrev AreLines : ListFormat → List (List ℕ) → Type 0
-AreLines form lines = AllByRecursion (IsLine (format.List form)) lines
+abbrev AreLines : FileFormat → List (List ℕ) → Type 0
+AreLines form lines = AllByRecursion (IsLine (format.Files form)) lines
 
 -- the name of a file that has this path alone, or else this file name
 abbrev named_by : (path name : Option (List ℕ)) → List ℕ
@@ -304,7 +304,7 @@ fetched_is : (url : Option (List ℕ)) → fetched_check url (last_part url None
 fetched_is None taken = cc taken
 fetched_is (Some url) taken = let p = both _ _ taken in (web_url_is class.Url url p.0, file_name_is field.UrlEnd (end_of (Some url) None) p.1)
 
-lines_are : (form : ListFormat) (source : SourceValue) → list_check form source ≡ Ok tt → AreLines form (source_lines form source)
+lines_are : (form : FileFormat) (source : SourceValue) → list_check form source ≡ Ok tt → AreLines form (source_lines form source)
 lines_are Sha256sum source taken =
     let p = both _ _ taken in
     (sum_line (value_of Sha256sum source) (sum_name (path_alone source) (key_of Sha256sum source)) (sum_is source p.1) (sum_name_is (path_alone source) (file_name_of_source source) p.0), tt)
@@ -320,11 +320,11 @@ lines_are Aria2 source taken =
     )
 lines_are Urls source taken = (url_line (key_of Urls source) (fetched_is (url_of source) taken), tt)
 
-joined : (form : ListFormat) (a b : List (List ℕ)) → AreLines form a → AreLines form b → AreLines form (a ++ b)
+joined : (form : FileFormat) (a b : List (List ℕ)) → AreLines form a → AreLines form b → AreLines form (a ++ b)
 joined form [] b are others = others
 joined form (x ∷ a) b are others = (are.0, joined form a b are.1 others)
 
-kept_lines : (form : ListFormat) (kept : List ListedValue) → AreTaken form kept → AreLines form (flat_map (λ s. source_lines form s.source) kept)
+kept_lines : (form : FileFormat) (kept : List ListedValue) → AreTaken form kept → AreLines form (flat_map (λ s. source_lines form s.source) kept)
 kept_lines form [] are = tt
 kept_lines form (s ∷ kept) are = joined form (source_lines form s.source) _ (lines_are form s.source are.0) (kept_lines form kept are.1)
 
@@ -344,18 +344,18 @@ allowed_part part sources lines made = by (source_requirements (part_of part sou
         let same : header ∷ found ≡ lines = cc made in
         subst (All (IsLine (form_of part))) same (All-from_recursion (IsLine (form_of part)) (header ∷ found) (header_is part, (part_are part sources found is).1))
 
-pub allowed_lines : (form : Format) (sources : List ListedValue) (lines : List (List ℕ)) → format_lines form sources ≡ Ok lines → All (IsLine form) lines
+pub allowed_lines : (form : PlanFormat) (sources : List ListedValue) (lines : List (List ℕ)) → format_lines form sources ≡ Ok lines → All (IsLine form) lines
 allowed_lines format.Requirements sources lines made = allowed_part Hashed sources lines made
 allowed_lines format.RequirementsLocal sources lines made = allowed_part Local sources lines made
-allowed_lines (format.List form) sources lines made = by (with_sources form [] sources) refl made
+allowed_lines (format.Files form) sources lines made = by (with_sources form [] sources) refl made
   where
     by : (r : Result (List ListedValue) ExportError) → with_sources form [] sources ≡ r
-        → (r >>= (λ kept. Ok (flat_map (λ s. source_lines form s.source) kept))) ≡ Ok lines → All (IsLine (format.List form)) lines
+        → (r >>= (λ kept. Ok (flat_map (λ s. source_lines form s.source) kept))) ≡ Ok lines → All (IsLine (format.Files form)) lines
     by (Err e) is made = cc made
     by (Ok kept) is made =
         let same : flat_map (λ s. source_lines form s.source) kept ≡ lines = cc made in
-        subst (All (IsLine (format.List form))) same
-        (All-from_recursion (IsLine (format.List form)) _ (kept_lines form kept (all_kept form sources kept is)))
+        subst (All (IsLine (format.Files form))) same
+        (All-from_recursion (IsLine (format.Files form)) _ (kept_lines form kept (all_kept form sources kept is)))
 
 pub requirement_each : (part : PlanPart) (sources : List ListedValue) (lines : List (List ℕ)) → requirements_lines part sources ≡ Ok lines
     → lines ≡ header ∷ map requirement_line (part_of part sources)

@@ -9,11 +9,11 @@ use Rattle.pylock_exports.specs.Parts.{Check}
 use Rattle.pylock_exports.specs.Refusals.{at_number, other_value}
 use Rattle.pylock_exports.specs.Requirements.{header, part_of, parts_check, requirement_check, requirement_line, requirements_lines, source_requirements}
 use Rattle.pylock_exports.specs.Texts.{format_lines, format_text, lines_text}
-use Rattle.pylock_exports.specs.declared.format.Format.{Format}
-use Rattle.pylock_exports.specs.declared.format.Format.TheVariants as format
-use Rattle.pylock_exports.specs.declared.format.ListFormat.{ListFormat}
-use Rattle.pylock_exports.specs.declared.format.PlanPart.{PlanPart}
-use Rattle.pylock_exports.specs.declared.format.PlanPart.TheVariants.{Hashed, Local}
+use Rattle.pylock_command.specs.declared.form.PlanFormat.{PlanFormat}
+use Rattle.pylock_command.specs.declared.form.PlanFormat.TheVariants as format
+use Rattle.pylock_command.specs.declared.form.FileFormat.{FileFormat}
+use Rattle.pylock_exports.specs.declared.requirements.PlanPart.{PlanPart}
+use Rattle.pylock_exports.specs.declared.requirements.PlanPart.TheVariants.{Hashed, Local}
 use Rattle.pylock_exports.specs.declared.refusal.ExportError.TheVariants.{Memory, Refused}
 use Rattle.pylock_exports.specs.declared.refusal.FormatRefusal.{FormatRefusal}
 
@@ -24,20 +24,20 @@ never_numbered : (n : ℕ) (check : Check) → Never Memory (at_number n check)
 never_numbered n (Ok u) = never_ok Memory u
 never_numbered n (Err fault) = never_err Memory (Refused (record { number = n; fault = fault })) (other (record { number = n; fault = fault }))
 
-never_beside : (form : ListFormat) (kept : List ListedValue) (s : ListedValue) (value : Option (List ℕ)) → Never Memory (beside form kept s value)
+never_beside : (form : FileFormat) (kept : List ListedValue) (s : ListedValue) (value : Option (List ℕ)) → Never Memory (beside form kept s value)
 never_beside form kept s None = never_ok Memory (kept ++ s ∷ [])
 never_beside form kept s (Some value) =
     never_cond Memory (bytes_eq value (value_of form s.source)) (Ok kept) (Err (other_value s.number)) (never_ok Memory kept)
     (never_err Memory (other_value s.number) (λ e. cc e))
 
-never_source : (form : ListFormat) (kept : List ListedValue) (s : ListedValue) → Never Memory (with_source form kept s)
+never_source : (form : FileFormat) (kept : List ListedValue) (s : ListedValue) → Never Memory (with_source form kept s)
 never_source form kept s =
     let value = value_named form (key_of form s.source) kept in
     never_cond Memory (is_left form s.source) (Ok kept) (at_number s.number (list_check form s.source) >>= (λ _. beside form kept s value)) (never_ok Memory kept)
     (never_then Memory (at_number s.number (list_check form s.source)) (λ _. beside form kept s value) (never_numbered s.number (list_check form s.source))
     (λ _. never_beside form kept s value))
 
-never_sources : (form : ListFormat) (kept sources : List ListedValue) → Never Memory (with_sources form kept sources)
+never_sources : (form : FileFormat) (kept sources : List ListedValue) → Never Memory (with_sources form kept sources)
 never_sources form kept [] = never_ok Memory kept
 never_sources form kept (s ∷ rest) =
     never_then Memory (with_source form kept s) (λ more. with_sources form more rest) (never_source form kept s) (λ more. never_sources form more rest)
@@ -57,13 +57,13 @@ never_part part sources =
     never_then Memory (source_requirements (part_of part sources)) (λ lines. Ok (header ∷ lines)) (never_requirements (part_of part sources))
     (λ lines. never_ok Memory (header ∷ lines))
 
-never_lines : (form : Format) (sources : List ListedValue) → Never Memory (format_lines form sources)
+never_lines : (form : PlanFormat) (sources : List ListedValue) → Never Memory (format_lines form sources)
 never_lines format.Requirements sources = never_part Hashed sources
 never_lines format.RequirementsLocal sources = never_part Local sources
-never_lines (format.List form) sources =
+never_lines (format.Files form) sources =
     never_then Memory (with_sources form [] sources) (λ kept. Ok (flat_map (λ s. source_lines form s.source) kept)) (never_sources form [] sources)
     (λ kept. never_ok Memory (flat_map (λ s. source_lines form s.source) kept))
 
-pub never_memory : (form : Format) (sources : List ListedValue) → Never Memory (format_text form sources)
+pub never_memory : (form : PlanFormat) (sources : List ListedValue) → Never Memory (format_text form sources)
 never_memory form sources =
     never_then Memory (format_lines form sources) (λ lines. Ok (lines_text lines)) (never_lines form sources) (λ lines. never_ok Memory (lines_text lines))

@@ -20,8 +20,8 @@ use Rattle.pylock_exports.specs.Requirements.{header, named, path_text}
 use Rattle.pylock_exports.specs.Texts.{format_lines}
 use Rattle.pylock_exports.specs.declared.class.Class.{Class}
 use Rattle.pylock_exports.specs.declared.class.Class.TheVariants as class
-use Rattle.pylock_exports.specs.declared.format.Format.{Format}
-use Rattle.pylock_exports.specs.declared.format.Format.TheVariants as format
+use Rattle.pylock_command.specs.declared.form.PlanFormat.{PlanFormat}
+use Rattle.pylock_command.specs.declared.form.PlanFormat.TheVariants as format
 use Rattle.pylock_exports.proofs.LineLemmas.{allowed_lines}
 use Rattle.pylock_exports.proofs.SplitLemmas.{apart, before_found, fails_both, joined_five, lacking, last_behind, last_or, never_cut, no_such, one_cut, only_cut}
 
@@ -383,15 +383,15 @@ directory_reads editable path sub is = by is.is_taken
 -- ---- all lines
 
 -- a form for pip
-abbrev IsPip : Format → Type 0
+abbrev IsPip : PlanFormat → Type 0
 IsPip format.Requirements = ⊤
 IsPip format.RequirementsLocal = ⊤
-IsPip (format.List form) = ⊥
+IsPip (format.Files form) = ⊥
 
 header_reads : ReadsPlainly header
 header_reads = read_never header (codes "#") (codes "plan by pylock ") refl refl refl
 
-line_reads : (form : Format) (line : List ℕ) → IsLine form line → IsPip form → ReadsPlainly line
+line_reads : (form : PlanFormat) (line : List ℕ) → IsLine form line → IsPip form → ReadsPlainly line
 line_reads form line (sum_line hash file a b) pip = absurd pip
 line_reads form line (aria2_url url a) pip = absurd pip
 line_reads form line (aria2_file file a b) pip = absurd pip
@@ -407,11 +407,11 @@ line_reads form line local_header_line pip = header_reads
 line_reads form line (checkout_line name kind url commit fragment a b c d e) pip = checkout_reads name kind url commit fragment a b c d e
 line_reads form line (directory_line editable path sub a) pip = directory_reads editable path sub a
 
-all_read : (form : Format) (lines : List (List ℕ)) → IsPip form → AllByRecursion (IsLine form) lines → AllByRecursion ReadsPlainly lines
+all_read : (form : PlanFormat) (lines : List (List ℕ)) → IsPip form → AllByRecursion (IsLine form) lines → AllByRecursion ReadsPlainly lines
 all_read form [] pip are = tt
 all_read form (line ∷ lines) pip are = (line_reads form line are.0 pip, all_read form lines pip are.1)
 
-pip_lines : (form : Format) → IsPip form → (sources : List ListedValue) (lines : List (List ℕ)) → format_lines form sources ≡ Ok lines → All ReadsPlainly lines
+pip_lines : (form : PlanFormat) → IsPip form → (sources : List ListedValue) (lines : List (List ℕ)) → format_lines form sources ≡ Ok lines → All ReadsPlainly lines
 pip_lines form pip sources lines made =
     All-from_recursion ReadsPlainly lines (all_read form lines pip (recursion_from_All (IsLine form) lines (allowed_lines form sources lines made)))
 

@@ -15,9 +15,9 @@ use Rattle.pylock_exports.specs.Parts.{has_parent, has_path, has_query, is_host,
 use Rattle.pylock_exports.specs.Requirements.{header, joins_once, named, path_text}
 use Rattle.pylock_exports.specs.declared.class.Class.{Class}
 use Rattle.pylock_exports.specs.declared.class.Class.TheVariants as class
-use Rattle.pylock_exports.specs.declared.format.Format.{Format}
-use Rattle.pylock_exports.specs.declared.format.Format.TheVariants as format
-use Rattle.pylock_exports.specs.declared.format.ListFormat.TheVariants.{Sha256sum, Aria2, Urls}
+use Rattle.pylock_command.specs.declared.form.PlanFormat.{PlanFormat}
+use Rattle.pylock_command.specs.declared.form.PlanFormat.TheVariants as format
+use Rattle.pylock_command.specs.declared.form.FileFormat.TheVariants.{Sha256sum, Aria2, Urls}
 
 -- ---- names
 
@@ -156,18 +156,18 @@ IsSumName text = IsFileName text ⊎ ((path : List ℕ) × IsPath path × (text 
 
 -- ---- the lines
 
-pub data IsLine : Format → List ℕ → Type 0 where
+pub data IsLine : PlanFormat → List ℕ → Type 0 where
   sum_line : (hash file : List ℕ) → IsHash 64 hash → IsSumName file
-      → IsLine (format.List Sha256sum) (hash ++ codes "  " ++ file)
-  aria2_url : (url : List ℕ) → IsFetchedUrl url → IsLine (format.List Aria2) url
+      → IsLine (format.Files Sha256sum) (hash ++ codes "  " ++ file)
+  aria2_url : (url : List ℕ) → IsFetchedUrl url → IsLine (format.Files Aria2) url
   aria2_file : (file : List ℕ) → IsFileName file → is_control_file file ≡ false
-      → IsLine (format.List Aria2) (codes " out=" ++ file)
+      → IsLine (format.Files Aria2) (codes " out=" ++ file)
   aria2_hash : (hash : List ℕ) → IsHash 64 hash
-      → IsLine (format.List Aria2) (codes " checksum=sha-256=" ++ hash)
-  aria2_torrent : IsLine (format.List Aria2) (codes " follow-torrent=false")
-  aria2_metalink : IsLine (format.List Aria2) (codes " follow-metalink=false")
-  aria2_renaming : IsLine (format.List Aria2) (codes " auto-file-renaming=false")
-  url_line : (url : List ℕ) → IsFetchedUrl url → IsLine (format.List Urls) url
+      → IsLine (format.Files Aria2) (codes " checksum=sha-256=" ++ hash)
+  aria2_torrent : IsLine (format.Files Aria2) (codes " follow-torrent=false")
+  aria2_metalink : IsLine (format.Files Aria2) (codes " follow-metalink=false")
+  aria2_renaming : IsLine (format.Files Aria2) (codes " auto-file-renaming=false")
+  url_line : (url : List ℕ) → IsFetchedUrl url → IsLine (format.Files Urls) url
   header_line : IsLine format.Requirements header
   -- a file or an archive
   place_line : (name place fragment hash : List ℕ)

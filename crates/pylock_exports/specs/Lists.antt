@@ -15,8 +15,8 @@ use Rattle.pylock_exports.specs.Parts.{require, there, web_url_check}
 use Rattle.pylock_exports.specs.Refusals.{at_number, other_value}
 use Rattle.pylock_exports.specs.Requirements.{path_text}
 use Rattle.pylock_exports.specs.declared.class.Class.TheVariants as class
-use Rattle.pylock_exports.specs.declared.format.ListFormat.{ListFormat}
-use Rattle.pylock_exports.specs.declared.format.ListFormat.TheVariants.{Sha256sum, Aria2, Urls}
+use Rattle.pylock_command.specs.declared.form.FileFormat.{FileFormat}
+use Rattle.pylock_command.specs.declared.form.FileFormat.TheVariants.{Sha256sum, Aria2, Urls}
 use Rattle.pylock_exports.specs.declared.refusal.Field.TheVariants as field
 use Rattle.pylock_exports.specs.declared.refusal.ExportError.{ExportError}
 use Rattle.pylock_exports.specs.declared.refusal.Reason.TheVariants as reason
@@ -24,34 +24,34 @@ use Rattle.pylock_exports.specs.declared.refusal.Reason.TheVariants as reason
 -- ---- what a list names a file by
 
 -- its file name; of `sha256sum` its path, where it has no URL; of `urls` its URL
-abbrev pub name_in : ListFormat → SourceValue → Option (List ℕ)
+abbrev pub name_in : FileFormat → SourceValue → Option (List ℕ)
 name_in Sha256sum source =
     option_map_or (λ path. Some path) (path_alone source) (file_name_of_source source)
 name_in Aria2 source = file_name_of_source source
 name_in Urls source = url_of source
 
-abbrev pub key_of : ListFormat → SourceValue → List ℕ
+abbrev pub key_of : FileFormat → SourceValue → List ℕ
 key_of format source = unwrap_or (name_in format source) []
 
 -- what is one for each of these: the sha256 of a file, and of `urls` again the URL
-abbrev pub value_in : ListFormat → SourceValue → Option (List ℕ)
+abbrev pub value_in : FileFormat → SourceValue → Option (List ℕ)
 value_in Sha256sum source = sha256_of source
 value_in Aria2 source = sha256_of source
 value_in Urls source = url_of source
 
-abbrev pub value_of : ListFormat → SourceValue → List ℕ
+abbrev pub value_of : FileFormat → SourceValue → List ℕ
 value_of format source = unwrap_or (value_in format source) []
 
 -- ---- what a list can hold
 
 -- a name, or what it is one for, is absent, or a URL that it is fetched from
-abbrev pub lacks : ListFormat → SourceValue → Option (List ℕ) → Bool
+abbrev pub lacks : FileFormat → SourceValue → Option (List ℕ) → Bool
 lacks Sha256sum source name = is_none name || is_none (sha256_of source)
 lacks Aria2 source name = is_none name || is_none (sha256_of source) || is_none (url_of source)
 lacks Urls source name = is_none name
 
 -- a list leaves out what lacks one of these
-abbrev pub is_left : ListFormat → SourceValue → Bool
+abbrev pub is_left : FileFormat → SourceValue → Bool
 is_left format source = lacks format source (name_in format source)
 
 -- ---- what a file has to have
@@ -81,7 +81,7 @@ abbrev pub own_sum_check : SourceValue → Check
 own_sum_check source = there field.Hash (hash_check 64) (sha256_of source)
 
 -- what is named so, and whose URL ends so
-abbrev pub listed_check : ListFormat → SourceValue → (name : List ℕ) → (last : Option (List ℕ))
+abbrev pub listed_check : FileFormat → SourceValue → (name : List ℕ) → (last : Option (List ℕ))
     → Check
 listed_check Sha256sum source name last =
     sum_name_check (path_alone source) name >>= (λ _. own_sum_check source)
@@ -90,20 +90,20 @@ listed_check Aria2 source name last =
     >>= (λ _. fetched_check (url_of source) last)
 listed_check Urls source name last = fetched_check (url_of source) last
 
-abbrev pub list_check : ListFormat → SourceValue → Check
+abbrev pub list_check : FileFormat → SourceValue → Check
 list_check format source =
     listed_check format source (key_of format source) (last_part (url_of source) None)
 
 -- ---- each file once
 
 -- the value of the first that is named so
-abbrev pub value_named : ListFormat → List ℕ → List ListedValue → Option (List ℕ)
+abbrev pub value_named : FileFormat → List ℕ → List ListedValue → Option (List ℕ)
 value_named format key kept =
     option_map (λ s. value_of format s.source)
     (find (λ s. bytes_eq key (key_of format s.source)) kept)
 
 -- a source beside those so far, among which one that is named so has this value
-abbrev pub beside : ListFormat → List ListedValue → ListedValue → Option (List ℕ)
+abbrev pub beside : FileFormat → List ListedValue → ListedValue → Option (List ℕ)
     → Result (List ListedValue) ExportError
 beside format kept s None = Ok (kept ++ s ∷ [])
 beside format kept s (Some value) =
@@ -112,7 +112,7 @@ beside format kept s (Some value) =
 
 -- those so far with one more source: what lacks something is left out, and what is named as an
 -- earlier one is has to have its value
-abbrev pub with_source : ListFormat → List ListedValue → ListedValue
+abbrev pub with_source : FileFormat → List ListedValue → ListedValue
     → Result (List ListedValue) ExportError
 with_source format kept s =
     if is_left format s.source then Ok kept
@@ -120,7 +120,7 @@ with_source format kept s =
     >>= (λ _. beside format kept s (value_named format (key_of format s.source) kept)))
 
 -- those so far with more
-abbrev pub with_sources : ListFormat → List ListedValue → List ListedValue
+abbrev pub with_sources : FileFormat → List ListedValue → List ListedValue
     → Result (List ListedValue) ExportError
 with_sources format kept [] = Ok kept
 with_sources format kept (s ∷ rest) =
@@ -134,7 +134,7 @@ sum_name (Some path) name = path_text name
 sum_name None name = name
 
 -- the lines of a source that is named so
-abbrev pub lines_named : ListFormat → SourceValue → (name : List ℕ) → List (List ℕ)
+abbrev pub lines_named : FileFormat → SourceValue → (name : List ℕ) → List (List ℕ)
 lines_named Sha256sum source name =
     (value_of Sha256sum source ++ codes "  " ++ sum_name (path_alone source) name) ∷ []
 lines_named Aria2 source name =
@@ -146,11 +146,11 @@ lines_named Aria2 source name =
     ∷ codes " auto-file-renaming=false" ∷ []
 lines_named Urls source name = name ∷ []
 
-abbrev pub source_lines : ListFormat → SourceValue → List (List ℕ)
+abbrev pub source_lines : FileFormat → SourceValue → List (List ℕ)
 source_lines format source = lines_named format source (key_of format source)
 
 -- the lines of a list
-abbrev pub list_lines : ListFormat → List ListedValue → Result (List (List ℕ)) ExportError
+abbrev pub list_lines : FileFormat → List ListedValue → Result (List (List ℕ)) ExportError
 list_lines format sources =
     with_sources format [] sources
     >>= (λ kept. Ok (flat_map (λ s. source_lines format s.source) kept))
@@ -158,11 +158,11 @@ list_lines format sources =
 -- ---- what a list keeps
 
 -- what the list names its files by
-abbrev pub keys : ListFormat → List ListedValue → List (List ℕ)
+abbrev pub keys : FileFormat → List ListedValue → List (List ℕ)
 keys format kept = map (λ s. key_of format s.source) kept
 
 -- what lacks nothing is kept, or one that is named as it is and has its value
-abbrev pub IsKept : ListFormat → List ListedValue → ListedValue → Type 0
+abbrev pub IsKept : FileFormat → List ListedValue → ListedValue → Type 0
 IsKept format kept s =
     is_left format s.source ≡ false
     → value_named format (key_of format s.source) kept ≡ Some (value_of format s.source)

@@ -21,8 +21,8 @@ use Rattle.pylock_exports.specs.Parts.{directory_path_check, end_check, hash_che
 use Rattle.pylock_exports.specs.Parts.{kind_check, missing, name_check, path_check, require}
 use Rattle.pylock_exports.specs.Parts.{subdirectory_check, there, where_there}
 use Rattle.pylock_exports.specs.Refusals.{at_number}
-use Rattle.pylock_exports.specs.declared.format.PlanPart.{PlanPart}
-use Rattle.pylock_exports.specs.declared.format.PlanPart.TheVariants as part
+use Rattle.pylock_exports.specs.declared.requirements.PlanPart.{PlanPart}
+use Rattle.pylock_exports.specs.declared.requirements.PlanPart.TheVariants as part
 use Rattle.pylock_exports.specs.declared.refusal.Field.{Field}
 use Rattle.pylock_exports.specs.declared.refusal.Field.TheVariants as field
 use Rattle.pylock_exports.specs.declared.refusal.ExportError.{ExportError}

@@ -7,11 +7,11 @@ use Rattle.pylock_core.specs.Session.Picks.{SourceValue}
 use Rattle.pylock_exports.specs.Listed.{ListedValue}
 use Rattle.pylock_exports.specs.Lists.{is_left, list_lines}
 use Rattle.pylock_exports.specs.Requirements.{is_in, requirements_lines}
-use Rattle.pylock_exports.specs.declared.format.Format.{Format}
-use Rattle.pylock_exports.specs.declared.format.Format.TheVariants as format
-use Rattle.pylock_exports.specs.declared.format.ListFormat.TheVariants.{Sha256sum, Aria2, Urls}
-use Rattle.pylock_exports.specs.declared.format.PlanPart.{PlanPart}
-use Rattle.pylock_exports.specs.declared.format.PlanPart.TheVariants.{Hashed, Local}
+use Rattle.pylock_command.specs.declared.form.PlanFormat.{PlanFormat}
+use Rattle.pylock_command.specs.declared.form.PlanFormat.TheVariants as format
+use Rattle.pylock_command.specs.declared.form.FileFormat.TheVariants.{Sha256sum, Aria2, Urls}
+use Rattle.pylock_exports.specs.declared.requirements.PlanPart.{PlanPart}
+use Rattle.pylock_exports.specs.declared.requirements.PlanPart.TheVariants.{Hashed, Local}
 use Rattle.pylock_exports.specs.declared.left.LeftSource.{LeftSource}
 use Rattle.pylock_exports.specs.declared.refusal.ExportError.{ExportError}
 
@@ -22,12 +22,12 @@ lines_text lines = flat_map (λ line. line ++ codes "\n") lines
 abbrev pub part_text : PlanPart → List ListedValue → Result (List ℕ) ExportError
 part_text part sources = requirements_lines part sources >>= (λ lines. Ok (lines_text lines))
 
-abbrev pub format_lines : Format → List ListedValue → Result (List (List ℕ)) ExportError
+abbrev pub format_lines : PlanFormat → List ListedValue → Result (List (List ℕ)) ExportError
 format_lines format.Requirements sources = requirements_lines Hashed sources
 format_lines format.RequirementsLocal sources = requirements_lines Local sources
-format_lines (format.List form) sources = list_lines form sources
+format_lines (format.Files form) sources = list_lines form sources
 
-abbrev pub format_text : Format → List ListedValue → Result (List ℕ) ExportError
+abbrev pub format_text : PlanFormat → List ListedValue → Result (List ℕ) ExportError
 format_text form sources = format_lines form sources >>= (λ lines. Ok (lines_text lines))
 
 -- ---- the five forms
@@ -39,28 +39,28 @@ abbrev pub requirements_local_text : List ListedValue → Result (List ℕ) Expo
 requirements_local_text sources = format_text format.RequirementsLocal sources
 
 abbrev pub sha256sum_text : List ListedValue → Result (List ℕ) ExportError
-sha256sum_text sources = format_text (format.List Sha256sum) sources
+sha256sum_text sources = format_text (format.Files Sha256sum) sources
 
 abbrev pub aria2_text : List ListedValue → Result (List ℕ) ExportError
-aria2_text sources = format_text (format.List Aria2) sources
+aria2_text sources = format_text (format.Files Aria2) sources
 
 abbrev pub urls_text : List ListedValue → Result (List ℕ) ExportError
-urls_text sources = format_text (format.List Urls) sources
+urls_text sources = format_text (format.Files Urls) sources
 
 -- ---- what is told beside the text
 
 -- the form has no line of the source
-abbrev pub is_left_out : Format → SourceValue → Bool
+abbrev pub is_left_out : PlanFormat → SourceValue → Bool
 is_left_out format.Requirements source = not (is_in Hashed source)
 is_left_out format.RequirementsLocal source = not (is_in Local source)
-is_left_out (format.List form) source = is_left form source
+is_left_out (format.Files form) source = is_left form source
 
 -- the sources without a line, in order
-abbrev pub left_sources : Format → List ListedValue → List ListedValue
+abbrev pub left_sources : PlanFormat → List ListedValue → List ListedValue
 left_sources form sources = filter (λ s. is_left_out form s.source) sources
 
 -- how many they are
-abbrev pub left_out : Format → List ListedValue → ℕ
+abbrev pub left_out : PlanFormat → List ListedValue → ℕ
 left_out form sources = length (left_sources form sources)
 
 -- the number and the name of a source's entry
@@ -68,7 +68,7 @@ abbrev pub entry_of : ListedValue → ℕ × List ℕ
 entry_of s = (s.number, s.entry.name)
 
 -- those of the first of them, five at most
-abbrev pub first_left : Format → List ListedValue → List (ℕ × List ℕ)
+abbrev pub first_left : PlanFormat → List ListedValue → List (ℕ × List ℕ)
 first_left form sources = take 5 (map entry_of (left_sources form sources))
 
 -- the same, as the code hands them out

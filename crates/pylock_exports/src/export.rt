@@ -5,15 +5,15 @@ ghost use Rattle.pytext.specs.Agreement.{Gives};
 ghost use Rattle.pylock_exports.specs.Inner.Lent.{all_lent};
 ghost use Rattle.pylock_exports.specs.Listed.{plan_sources, sources_from};
 ghost use Rattle.pylock_exports.specs.Texts.{first_left, format_text, left_out, shown_left};
-ghost use Rattle.pylock_exports.specs.declared.format.Format.TheVariants as format;
+ghost use Rattle.pylock_command.specs.declared.form.PlanFormat.TheVariants as format;
 ghost use Rattle.pylock_exports.specs.declared.refusal.ExportError.TheVariants as export;
 
-use crate::format::{Format, ListFormat, PlanPart};
 use crate::left::{LeftSource, first_left, left_count};
 use crate::listed::{Listed, entry_sources, plan_sources};
 use crate::lists::list_text;
 use crate::refusal::ExportError;
-use crate::requirements::requirements_text;
+use crate::requirements::{PlanPart, requirements_text};
+use pylock_command::{FileFormat, PlanFormat};
 use pylock_core::{Entry, Plan, Session};
 use std::alloc::Global;
 
@@ -40,18 +40,18 @@ impl Drop for Exported {
 }
 
 /// The text of a form of these sources.
-fn text_of(alloc: Global, form: Format, list: &[Listed<'_>]) -> Result<String, ExportError>
+fn text_of(alloc: Global, form: PlanFormat, list: &[Listed<'_>]) -> Result<String, ExportError>
     ensures { Gives export.Memory string_bytes result (format_text form (all_lent list.now)) }
 {
     match form {
-        Format::Requirements => requirements_text(alloc, PlanPart::Hashed, list),
-        Format::RequirementsLocal => requirements_text(alloc, PlanPart::Local, list),
-        Format::List(form) => list_text(alloc, form, list),
+        PlanFormat::Requirements => requirements_text(alloc, PlanPart::Hashed, list),
+        PlanFormat::RequirementsLocal => requirements_text(alloc, PlanPart::Local, list),
+        PlanFormat::Files(form) => list_text(alloc, form, list),
     }
 }
 
 /// The text of a form of these sources, and what is told beside it.
-fn export(alloc: Global, form: Format, list: &[Listed<'_>]) -> Result<Exported, ExportError>
+fn export(alloc: Global, form: PlanFormat, list: &[Listed<'_>]) -> Result<Exported, ExportError>
     ensures text { Gives export.Memory (λ e. string_bytes e.text) result
         (format_text form (all_lent list.now)) }
     ensures left_out { IfOk result (λ e. e.left_out ≡ left_out form (all_lent list.now)) }
@@ -70,7 +70,7 @@ fn export(alloc: Global, form: Format, list: &[Listed<'_>]) -> Result<Exported, 
 /// a list has, and for the text.
 pub fn export_plan(
     alloc: Global,
-    form: Format,
+    form: PlanFormat,
     session: &Session,
     plan: &Plan,
 ) -> Result<Exported, ExportError>
@@ -90,16 +90,16 @@ pub fn export_plan(
 /// [`export_plan`].
 pub fn export_files(
     alloc: Global,
-    form: ListFormat,
+    form: FileFormat,
     entries: &[Entry],
 ) -> Result<Exported, ExportError>
     ensures text { Gives export.Memory (λ e. string_bytes e.text) result
-        (format_text (format.List form) (sources_from 1 entries.now)) }
+        (format_text (format.Files form) (sources_from 1 entries.now)) }
     ensures left_out { IfOk result (λ e. e.left_out
-        ≡ left_out (format.List form) (sources_from 1 entries.now)) }
+        ≡ left_out (format.Files form) (sources_from 1 entries.now)) }
     ensures first { IfOk result (λ e. map shown_left e.first_left.items
-        ≡ first_left (format.List form) (sources_from 1 entries.now)) }
+        ≡ first_left (format.Files form) (sources_from 1 entries.now)) }
 {
     let list = entry_sources(alloc, entries)?;
-    export(alloc, Format::List(form), list.as_slice())
+    export(alloc, PlanFormat::Files(form), list.as_slice())
 }

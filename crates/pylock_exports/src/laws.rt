@@ -10,16 +10,16 @@ ghost use Rattle.pylock_exports.specs.Pip.{ReadsPlainly};
 ghost use Rattle.pylock_exports.specs.Requirements.{Deals, header, part_of, requirement_line};
 ghost use Rattle.pylock_exports.specs.Requirements.{requirements_lines};
 ghost use Rattle.pylock_exports.specs.Texts.{format_lines, format_text};
-ghost use Rattle.pylock_exports.specs.declared.format.Format.{Format};
-ghost use Rattle.pylock_exports.specs.declared.format.Format.TheVariants as format;
-ghost use Rattle.pylock_exports.specs.declared.format.ListFormat.{ListFormat};
-ghost use Rattle.pylock_exports.specs.declared.format.PlanPart.{PlanPart};
+ghost use Rattle.pylock_command.specs.declared.form.PlanFormat.{PlanFormat};
+ghost use Rattle.pylock_command.specs.declared.form.PlanFormat.TheVariants as format;
+ghost use Rattle.pylock_command.specs.declared.form.FileFormat.{FileFormat};
+ghost use Rattle.pylock_exports.specs.declared.requirements.PlanPart.{PlanPart};
 ghost use Rattle.pylock_exports.specs.declared.refusal.ExportError.TheVariants.{Memory};
 
 /// Each line of a text has only what is allowed in its form.
 #[tactic(auto, using(crate::proofs::LineLemmas::allowed_lines))]
 pub fn lines_are_allowed()
-    ensures { (form : Format) (sources : List ListedValue) (lines : List (List ℕ))
+    ensures { (form : PlanFormat) (sources : List ListedValue) (lines : List (List ℕ))
         → format_lines form sources ≡ Ok lines → All (IsLine form) lines }
 {}
 
@@ -56,17 +56,17 @@ pub fn both_requirements_files_are_the_plan()
 /// nothing it keeps it, or one that is named as it is and has its value.
 #[tactic(auto, using(crate::proofs::OnceLemmas::each_file))]
 pub fn each_file_is_kept_once()
-    ensures sources { (form : ListFormat) (sources kept : List ListedValue)
+    ensures sources { (form : FileFormat) (sources kept : List ListedValue)
         → with_sources form [] sources ≡ Ok kept → All (Contains sources) kept }
-    ensures once { (form : ListFormat) (sources kept : List ListedValue)
+    ensures once { (form : FileFormat) (sources kept : List ListedValue)
         → with_sources form [] sources ≡ Ok kept → IsDistinct bytes_eq (keys form kept) }
-    ensures each { (form : ListFormat) (sources kept : List ListedValue)
+    ensures each { (form : FileFormat) (sources kept : List ListedValue)
         → with_sources form [] sources ≡ Ok kept → All (IsKept form kept) sources }
 {}
 
 /// The text of a form is never out of memory: only a call may answer it.
 #[tactic(auto, using(crate::proofs::NeverMemory::never_memory))]
 pub fn answers_are_never_out_of_memory()
-    ensures { (form : Format) (sources : List ListedValue)
+    ensures { (form : PlanFormat) (sources : List ListedValue)
         → format_text form sources ≡ Err Memory → ⊥ }
 {}

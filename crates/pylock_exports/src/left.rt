@@ -7,9 +7,9 @@ ghost use Rattle.pylock_exports.specs.Inner.Lent.{all_lent, lent};
 ghost use Rattle.pylock_exports.specs.Texts.{entry_of, first_left, is_left_out, left_out};
 ghost use Rattle.pylock_exports.specs.Texts.{shown_left};
 
-use crate::format::Format;
 use crate::listed::{Listed, is_unhashed};
 use crate::lists::is_left;
+use pylock_command::PlanFormat;
 use pylock_core::PickedSource;
 use std::alloc::{AllocError, Global};
 
@@ -32,20 +32,24 @@ impl Drop for LeftSource {
 }
 
 /// Whether the form has no line of a source.
-fn is_left_out(alloc: Global, form: Format, source: PickedSource<'_>) -> Result<bool, AllocError>
+fn is_left_out(
+    alloc: Global,
+    form: PlanFormat,
+    source: PickedSource<'_>,
+) -> Result<bool, AllocError>
     ensures { IfOk result (λ left. left ≡ is_left_out form (lent_source source.entry)) }
 {
     match form {
-        Format::Requirements => Ok(is_unhashed(source)),
-        Format::RequirementsLocal => Ok(!is_unhashed(source)),
-        Format::List(form) => is_left(alloc, form, source),
+        PlanFormat::Requirements => Ok(is_unhashed(source)),
+        PlanFormat::RequirementsLocal => Ok(!is_unhashed(source)),
+        PlanFormat::Files(form) => is_left(alloc, form, source),
     }
 }
 
 /// How many sources the form has no line of.
 pub(crate) fn left_count(
     alloc: Global,
-    form: Format,
+    form: PlanFormat,
     list: &[Listed<'_>],
 ) -> Result<usize, AllocError>
     ensures { IfOk result (λ count. count ≡ left_out form (all_lent list.now)) }
@@ -62,7 +66,7 @@ pub(crate) fn left_count(
 /// The first of the sources that the form has no line of.
 pub(crate) fn first_left(
     alloc: Global,
-    form: Format,
+    form: PlanFormat,
     list: &[Listed<'_>],
 ) -> Result<Vec<LeftSource>, AllocError>
     ensures { IfOk result (λ first. map shown_left first.items
@@ -78,7 +82,7 @@ pub(crate) fn first_left(
 /// Adds a source that the form has no line of, where fewer are there than are named.
 fn push_where_left(
     alloc: Global,
-    form: Format,
+    form: PlanFormat,
     first: &mut Vec<LeftSource>,
     listed: &Listed<'_>,
 ) -> Result<(), AllocError>

@@ -12,9 +12,9 @@
 //!
 //! ```rust
 //! match form {
-//!     Format::Requirements => requirements_text(alloc, PlanPart::Hashed, list),
-//!     Format::RequirementsLocal => requirements_text(alloc, PlanPart::Local, list),
-//!     Format::List(form) => list_text(alloc, form, list),
+//!     PlanFormat::Requirements => requirements_text(alloc, PlanPart::Hashed, list),
+//!     PlanFormat::RequirementsLocal => requirements_text(alloc, PlanPart::Local, list),
+//!     PlanFormat::Files(form) => list_text(alloc, form, list),
 //! }
 //! ```
 #![tactic(auto)]
@@ -22,7 +22,6 @@
 mod class;
 mod export;
 mod file_names;
-mod format;
 mod hashes;
 pub mod laws;
 mod left;
@@ -34,7 +33,6 @@ mod refusal;
 mod requirements;
 
 pub use export::{Exported, export_files, export_plan};
-pub use format::{Format, ListFormat};
 pub use left::LeftSource;
 pub use message::{explain_exported, explain_refusal};
 pub use refusal::{ExportError, Field, FieldFault, FormatRefusal, Reason};

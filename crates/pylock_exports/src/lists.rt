@@ -20,14 +20,13 @@ ghost use Rattle.pylock_exports.specs.Parts.{there, web_url_check};
 ghost use Rattle.pylock_exports.specs.Refusals.{at_number};
 ghost use Rattle.pylock_exports.specs.Texts.{format_text, lines_text};
 ghost use Rattle.pylock_exports.specs.declared.class.Class.TheVariants as class;
-ghost use Rattle.pylock_exports.specs.declared.format.Format.TheVariants as format;
-ghost use Rattle.pylock_exports.specs.declared.format.ListFormat.TheVariants.{Aria2, Sha256sum};
+ghost use Rattle.pylock_command.specs.declared.form.PlanFormat.TheVariants as format;
+ghost use Rattle.pylock_command.specs.declared.form.FileFormat.TheVariants.{Aria2, Sha256sum};
 ghost use Rattle.pylock_exports.specs.declared.refusal.ExportError.TheVariants as export;
 ghost use Rattle.pylock_exports.specs.declared.refusal.Field.TheVariants as field;
 
 use crate::class::Class;
 use crate::file_names::{ends, last_part};
-use crate::format::ListFormat;
 use crate::hashes::sha256_of;
 use crate::listed::{Listed, file_name_of, owned, path_alone, url_of};
 use crate::parts::{
@@ -35,6 +34,7 @@ use crate::parts::{
 };
 use crate::refusal::{ExportError, Field, FieldFault, Reason, at_number, other_value};
 use crate::requirements::push_path;
+use pylock_command::FileFormat;
 use pylock_core::PickedSource;
 use std::alloc::{AllocError, Global};
 use std::collections::BTreeMap;
@@ -45,16 +45,16 @@ use std::collections::BTreeMap;
 /// `urls` its URL.
 pub(crate) fn name_in(
     alloc: Global,
-    format: ListFormat,
+    format: FileFormat,
     source: PickedSource<'_>,
 ) -> Result<Option<String>, AllocError>
     ensures { IfOk result (λ name. option_map string_bytes name
         ≡ name_in format (lent_source source.entry)) }
 {
     match format {
-        ListFormat::Sha256sum => sum_name(alloc, source),
-        ListFormat::Aria2 => file_name_of(alloc, source),
-        ListFormat::Urls => owned(alloc, url_of(source)),
+        FileFormat::Sha256sum => sum_name(alloc, source),
+        FileFormat::Aria2 => file_name_of(alloc, source),
+        FileFormat::Urls => owned(alloc, url_of(source)),
     }
 }
 
@@ -70,34 +70,34 @@ fn sum_name(alloc: Global, source: PickedSource<'_>) -> Result<Option<String>, A
 }
 
 /// What is one for each of these: the SHA-256 of a file, and of `urls` again the URL.
-fn value_of(format: ListFormat, source: PickedSource<'_>) -> &str
+fn value_of(format: FileFormat, source: PickedSource<'_>) -> &str
     ensures { result.now ≡ value_of format (lent_source source.entry) }
 {
     let value = match format {
-        ListFormat::Sha256sum | ListFormat::Aria2 => sha256_of(source),
-        ListFormat::Urls => url_of(source),
+        FileFormat::Sha256sum | FileFormat::Aria2 => sha256_of(source),
+        FileFormat::Urls => url_of(source),
     };
     value.unwrap_or("")
 }
 
 /// Whether a list leaves out a source of this name: the name is absent, or the SHA-256, or the URL
 /// that it is fetched from.
-fn lacks(format: ListFormat, source: PickedSource<'_>, name: Option<&str>) -> bool
+fn lacks(format: FileFormat, source: PickedSource<'_>, name: Option<&str>) -> bool
     ensures { result ≡ lacks format (lent_source source.entry) (option_copied name.entry) }
 {
     match format {
-        ListFormat::Sha256sum => name.is_none() || sha256_of(source).is_none(),
-        ListFormat::Aria2 => {
+        FileFormat::Sha256sum => name.is_none() || sha256_of(source).is_none(),
+        FileFormat::Aria2 => {
             name.is_none() || sha256_of(source).is_none() || url_of(source).is_none()
         }
-        ListFormat::Urls => name.is_none(),
+        FileFormat::Urls => name.is_none(),
     }
 }
 
 /// Whether a list leaves out a source.
 pub(crate) fn is_left(
     alloc: Global,
-    format: ListFormat,
+    format: FileFormat,
     source: PickedSource<'_>,
 ) -> Result<bool, AllocError>
     ensures { IfOk result (λ left. left ≡ is_left format (lent_source source.entry)) }
@@ -162,7 +162,7 @@ fn check_own_sum(source: PickedSource<'_>) -> Result<(), FieldFault>
 
 /// A source that is named so, and whose URL ends so.
 fn check_listed(
-    format: ListFormat,
+    format: FileFormat,
     source: PickedSource<'_>,
     name: &str,
     last: Option<&str>,
@@ -171,23 +171,23 @@ fn check_listed(
         (option_copied last.entry) }
 {
     match format {
-        ListFormat::Sha256sum => {
+        FileFormat::Sha256sum => {
             check_sum_name(path_alone(source), name)?;
             check_own_sum(source)
         }
-        ListFormat::Aria2 => {
+        FileFormat::Aria2 => {
             check_aria2_name(name)?;
             check_own_sum(source)?;
             check_fetched(url_of(source), last)
         }
-        ListFormat::Urls => check_fetched(url_of(source), last),
+        FileFormat::Urls => check_fetched(url_of(source), last),
     }
 }
 
 /// The same, under the number of its entry.
 fn check_at_number(
     alloc: Global,
-    format: ListFormat,
+    format: FileFormat,
     listed: &Listed<'_>,
     name: &str,
 ) -> Result<(), ExportError>
@@ -208,7 +208,7 @@ fn check_at_number(
 /// ordered table, so that no lock makes it slow.
 pub(crate) fn kept_sources<'a>(
     alloc: Global,
-    format: ListFormat,
+    format: FileFormat,
     list: &[Listed<'a>],
 ) -> Result<Vec<Listed<'a>>, ExportError>
     ensures { Gives export.Memory (λ kept. all_lent kept.items) result
@@ -225,7 +225,7 @@ pub(crate) fn kept_sources<'a>(
 /// Adds a source, unless it is left out or stands there.
 fn keep<'a>(
     alloc: Global,
-    format: ListFormat,
+    format: FileFormat,
     kept: &mut Vec<Listed<'a>>,
     values: &mut BTreeMap<String, &'a str>,
     listed: &Listed<'a>,
@@ -257,7 +257,7 @@ fn text_or_empty(alloc: Global, text: Option<String>) -> String
 /// Adds a source that has this name, unless it stands there.
 fn keep_named<'a>(
     alloc: Global,
-    format: ListFormat,
+    format: FileFormat,
     kept: &mut Vec<Listed<'a>>,
     values: &mut BTreeMap<String, &'a str>,
     listed: &Listed<'a>,
@@ -311,7 +311,7 @@ fn push_sum(text: &mut String, source: PickedSource<'_>, name: &str) -> Result<(
     ensures { OnOk result (string_bytes text.new ≡ string_bytes text.old
         ++ lines_text (lines_named Sha256sum (lent_source source.entry) name.now)) }
 {
-    text.push_str(value_of(ListFormat::Sha256sum, source))?;
+    text.push_str(value_of(FileFormat::Sha256sum, source))?;
     text.push_str("  ")?;
     push_sum_name(text, path_alone(source), name)?;
     text.push_str("\n")
@@ -335,7 +335,7 @@ fn push_aria2(text: &mut String, source: PickedSource<'_>, name: &str) -> Result
     push_line(
         text,
         " checksum=sha-256=",
-        value_of(ListFormat::Aria2, source),
+        value_of(FileFormat::Aria2, source),
     )?;
     push_whole(text, " follow-torrent=false")?;
     push_whole(text, " follow-metalink=false")?;
@@ -345,7 +345,7 @@ fn push_aria2(text: &mut String, source: PickedSource<'_>, name: &str) -> Result
 /// Pushes the lines of a source that is named so.
 fn push_named_lines(
     text: &mut String,
-    format: ListFormat,
+    format: FileFormat,
     source: PickedSource<'_>,
     name: &str,
 ) -> Result<(), AllocError>
@@ -353,9 +353,9 @@ fn push_named_lines(
         ++ lines_text (lines_named format (lent_source source.entry) name.now)) }
 {
     match format {
-        ListFormat::Sha256sum => push_sum(text, source, name),
-        ListFormat::Aria2 => push_aria2(text, source, name),
-        ListFormat::Urls => push_whole(text, name),
+        FileFormat::Sha256sum => push_sum(text, source, name),
+        FileFormat::Aria2 => push_aria2(text, source, name),
+        FileFormat::Urls => push_whole(text, name),
     }
 }
 
@@ -363,7 +363,7 @@ fn push_named_lines(
 fn push_lines(
     alloc: Global,
     text: &mut String,
-    format: ListFormat,
+    format: FileFormat,
     source: PickedSource<'_>,
 ) -> Result<(), AllocError>
     ensures { OnOk result (string_bytes text.new ≡ string_bytes text.old
@@ -376,7 +376,7 @@ fn push_lines(
 fn push_kept(
     alloc: Global,
     text: &mut String,
-    format: ListFormat,
+    format: FileFormat,
     kept: &[Listed<'_>],
 ) -> Result<(), AllocError>
     ensures { OnOk result (string_bytes text.new ≡ string_bytes text.old
@@ -391,11 +391,11 @@ fn push_kept(
 /// The text of a list.
 pub(crate) fn list_text(
     alloc: Global,
-    form: ListFormat,
+    form: FileFormat,
     list: &[Listed<'_>],
 ) -> Result<String, ExportError>
     ensures { Gives export.Memory string_bytes result
-        (format_text (format.List form) (all_lent list.now)) }
+        (format_text (format.Files form) (all_lent list.now)) }
 {
     let kept = kept_sources(alloc, form, list)?;
     let mut text = String::new(alloc);

@@ -1,20 +1,18 @@
 //! What a person is told of a refusal, and beside a text.
 
 use crate::export::Exported;
-use crate::format::{Format, ListFormat};
 use crate::refusal::{Field, FieldFault, FormatRefusal, Reason};
+use pylock_command::{FileFormat, PlanFormat};
 use std::alloc::{AllocError, Global};
 
-impl Format {
-    /// The word of the form, as the command line has it.
-    pub fn word(self) -> &'static str {
-        match self {
-            Format::Requirements => "requirements",
-            Format::RequirementsLocal => "requirements-local",
-            Format::List(ListFormat::Sha256sum) => "sha256sum",
-            Format::List(ListFormat::Aria2) => "aria2",
-            Format::List(ListFormat::Urls) => "urls",
-        }
+/// The word of the form, as the command line has it.
+fn format_word(form: PlanFormat) -> &'static str {
+    match form {
+        PlanFormat::Requirements => "requirements",
+        PlanFormat::RequirementsLocal => "requirements-local",
+        PlanFormat::Files(FileFormat::Sha256sum) => "sha256sum",
+        PlanFormat::Files(FileFormat::Aria2) => "aria2",
+        PlanFormat::Files(FileFormat::Urls) => "urls",
     }
 }
 
@@ -23,12 +21,12 @@ impl Format {
 /// the text.
 pub fn explain_refusal(
     alloc: Global,
-    form: Format,
+    form: PlanFormat,
     name: Option<&str>,
     refusal: &FormatRefusal,
 ) -> Result<String, AllocError> {
     let number = refusal.number;
-    let word = form.word();
+    let word = format_word(form);
     let field = field_word(refusal.fault.field);
     let why = reason_text(alloc, form, refusal.fault)?;
     match name {
@@ -52,7 +50,7 @@ fn field_word(field: Field) -> &'static str {
     }
 }
 
-fn reason_text(alloc: Global, form: Format, fault: FieldFault) -> Result<String, AllocError> {
+fn reason_text(alloc: Global, form: PlanFormat, fault: FieldFault) -> Result<String, AllocError> {
     match fault.reason {
         Reason::Character(character) => character_text(alloc, fault.field, character),
         Reason::Missing => String::from_str(alloc, missing_text(form, fault.field)),
@@ -75,21 +73,21 @@ fn character_text(alloc: Global, field: Field, character: char) -> Result<String
     format!(in alloc; "`\\u{{{:x}}}` isn't allowed{place}", u32::from(character))
 }
 
-fn missing_text(form: Format, field: Field) -> &'static str {
+fn missing_text(form: PlanFormat, field: Field) -> &'static str {
     match (form, field) {
-        (Format::Requirements, Field::Hash) => "none of sha256, sha384, sha512",
-        (Format::List(_), Field::Hash) => "no sha256",
+        (PlanFormat::Requirements, Field::Hash) => "none of sha256, sha384, sha512",
+        (PlanFormat::Files(_), Field::Hash) => "no sha256",
         _ => "there is none",
     }
 }
 
-fn form_text(form: Format, field: Field) -> &'static str {
+fn form_text(form: PlanFormat, field: Field) -> &'static str {
     match (form, field) {
         (_, Field::Name | Field::FileName) => "begins with neither a letter nor a digit",
         (_, Field::UrlEnd | Field::PathEnd) => {
             "its last part is empty, or begins with neither a letter nor a digit"
         }
-        (Format::Requirements, Field::Url) => {
+        (PlanFormat::Requirements, Field::Url) => {
             "begins with none of https://, http://, file:/// and a letter or digit"
         }
         (_, Field::Url) => "begins with neither https:// nor http://",
@@ -124,13 +122,13 @@ fn other_text(reason: Reason) -> &'static str {
 /// for the text.
 pub fn explain_exported(
     alloc: Global,
-    form: Format,
+    form: PlanFormat,
     exported: &Exported,
 ) -> Result<Option<String>, AllocError> {
     if exported.left_out == 0 {
         return Ok(None);
     }
-    let word = form.word();
+    let word = format_word(form);
     let count = exported.left_out;
     let mut note = format!(in alloc; "note: --format {word} leaves out {count}")?;
     note.push_str(left_text(form))?;
@@ -139,15 +137,17 @@ pub fn explain_exported(
 }
 
 /// What is left out, and where it is.
-fn left_text(form: Format) -> &'static str {
+fn left_text(form: PlanFormat) -> &'static str {
     match form {
-        Format::Requirements => { ", vcs and directories, which --format requirements-local has" }
-        Format::RequirementsLocal => {
+        PlanFormat::Requirements => {
+            ", vcs and directories, which --format requirements-local has"
+        }
+        PlanFormat::RequirementsLocal => {
             ", wheels, sdists and archives, which --format requirements has"
         }
-        Format::List(ListFormat::Sha256sum) => ", without a file name and a path, or a sha256",
-        Format::List(ListFormat::Aria2) => ", without a file name, a url or a sha256",
-        Format::List(ListFormat::Urls) => ", without a url of a file",
+        PlanFormat::Files(FileFormat::Sha256sum) => ", without a file name and a path, or a sha256",
+        PlanFormat::Files(FileFormat::Aria2) => ", without a file name, a url or a sha256",
+        PlanFormat::Files(FileFormat::Urls) => ", without a url of a file",
     }
 }
 

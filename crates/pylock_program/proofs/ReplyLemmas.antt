@@ -1,16 +1,11 @@
--- Texts joined by a separator, and answers that are pushed.
-use Rattle.std.proofs.Common.{◌≡◌, ◌++◌, ℕ, List, [], ◌∷◌, map, length, false, Option, Some, Result, Ok, Err, refl, ap, sym, ◌∙◌}
+-- Texts joined by a separator.
+use Rattle.std.proofs.Common.{◌≡◌, ℕ, List, [], ◌∷◌, map, length, false, Some, refl, ap, sym, ◌∙◌}
 use Rattle.std.specs.List.{join_by}
 use Rattle.std.specs.Prelude.{◌==◌, codes}
 use Rattle.std.proofs.lemmas.Bool.{false≢true}
 use Rattle.pyver_core.specs.Name.{normal_name}
 use Rattle.pylock_readers.proofs.Joined.{joined_texts}
-use Rattle.pylock_command.specs.declared.form.Form.{Form}
-use Rattle.pylock_messages.specs.Diagnostic.{DiagnosticValue}
-use Rattle.pylock_run.specs.Report.{Report}
-use Rattle.pylock_run.specs.declared.report.opening.OpenError.{OpenError}
-use Rattle.pylock_program.specs.Inner.Answer.{IsPushed}
-use Rattle.pylock_program.specs.Reply.{answer_report, names_text}
+use Rattle.pylock_program.specs.Reply.{names_text}
 
 -- things with the same texts are joined alike
 pub joined_alike : {X Y : Type 0} (f : X → List ℕ) (g : Y → List ℕ) (sep : List ℕ) (xs : List X) (ys : List Y)
@@ -21,9 +16,3 @@ joined_alike f g sep xs ys same = joined_texts f sep xs ∙ ap (join_by (λ t. t
 pub some_names : {X : Type 0} (f : X → List ℕ) (xs : List X) → (length xs == 0) ≡ false → names_text (map f xs) ≡ Some (join_by normal_name (codes ",") (map f xs))
 some_names f [] none = absurd (false≢true (sym none))
 some_names f (x ∷ xs) some = refl
-
--- an answer that was pushed is what is reported
-pub pushed_answer : (form : Form) (told : Option DiagnosticValue) (old new : List ℕ) (status : ℕ) (answer : Result Report OpenError) → IsPushed old new status answer
-    → (new ≡ old ++ (answer_report form told answer).text) × (status ≡ (answer_report form told answer).status)
-pushed_answer form told old new status (Ok report) pushed = pushed
-pushed_answer form told old new status (Err refusal) pushed = absurd pushed

@@ -1,5 +1,7 @@
 -- What `diff` prints: what changed from one lock to another, or from one plan to the other.
-use Rattle.std.specs.Prelude.{ℕ, List, [], ◌∷◌, codes, Option, Result, Ok, Err}
+use Rattle.std.specs.Prelude.{ℕ, List, [], ◌∷◌, Option, Some, Result, Ok}
+use Rattle.std.specs.Result.{result_map_both}
+use Rattle.pytext.specs.Results.{◌>>=◌}
 use Rattle.pylock_command.specs.declared.choice.Choice.{Choice}
 use Rattle.pylock_command.specs.declared.form.Form.{Form}
 use Rattle.pylock_command.specs.declared.form.Form.TheVariants.{Lines, Json}
@@ -11,16 +13,17 @@ use Rattle.pylock_diff.specs.Compared.{compared_of}
 use Rattle.pylock_diff.specs.Document.{changes_rows}
 use Rattle.pylock_messages.specs.Diagnostic.{DiagnosticValue}
 use Rattle.pylock_readers.specs.Environment.{EnvironmentRead}
-use Rattle.pylock_readers.specs.Lock.{LockValue}
 use Rattle.pylock_readers.specs.Lock.Reading.{lock_of}
 use Rattle.pylock_readers.specs.declared.error.LockError.{LockError}
 use Rattle.pylock_run.specs.Report.{Report}
-use Rattle.pylock_run.specs.Text.Refusal.{side_text}
-use Rattle.pylock_run.specs.declared.report.opening.OpenError.TheVariants.{Environment}
-use Rattle.pylock_program.specs.Choices.{after_choices}
-use Rattle.pylock_program.specs.Refusal.{option_shown, refused_file_report}
+use Rattle.pylock_program.specs.Opening.{chosen_state, environment_of}
+use Rattle.pylock_program.specs.Refusal.{report_or_refusal}
 use Rattle.pylock_program.specs.Text.Diff.{changes_text}
-use Rattle.pylock_program.specs.Text.Json.{json_text, side_json}
+use Rattle.pylock_program.specs.Text.Json.{json_text}
+use Rattle.pylock_program.specs.declared.refusal.Cause.{Cause}
+use Rattle.pylock_program.specs.declared.refusal.Cause.TheVariants as cause
+use Rattle.pylock_program.specs.declared.refusal.Side.{Side as LockSide}
+use Rattle.pylock_program.specs.declared.refusal.Side.TheVariants.{Old, New}
 
 -- the changes, and whether there are any: status 0 where there is none
 abbrev pub changes_shown : Form → List ChangeValue → List ℕ
@@ -35,48 +38,43 @@ abbrev pub changes_report : Form → List ChangeValue → Report
 changes_report form changes =
     record { text = changes_shown form changes; status = changes_status changes }
 
--- a refused lock, of which `old` or `new` tells which it is
-abbrev pub side_shown : Form → Option DiagnosticValue → List ℕ → LockError → List ℕ
-side_shown Lines told side error = side_text side error
-side_shown Json told side error = side_json side error told
+-- one of two locks, or its refusal
+abbrev pub side_of : {V : Type 0} → LockSide → Result V LockError → Result V Cause
+side_of side lock = result_map_both (λ v. v) (cause.Side side) lock
 
-abbrev pub side_report : Form → Option DiagnosticValue → List ℕ → LockError → Report
-side_report form told side error =
-    record { text = side_shown form told side error; status = 2 }
-
--- what two locks lead to, of which the old one is judged first; `told` is what is told of a refusal
-abbrev pub of_both : {V : Type 0} → Form → Option DiagnosticValue → (V → V → Report)
-    → Result V LockError → Result V LockError → Report
-of_both form told report (Err error) new = side_report form told (codes "old") error
-of_both form told report (Ok old) (Err error) = side_report form told (codes "new") error
-of_both form told report (Ok old) (Ok new) = report old new
+-- both locks, of which the old one is judged first
+abbrev pub both_of : {V : Type 0} → Result V LockError → Result V LockError → Result (V × V) Cause
+both_of old new = do
+  old ← side_of Old old
+  new ← side_of New new
+  Ok (old, new)
 
 -- `diff OLD NEW`, from the bytes of both
 abbrev pub locks_report : Form → Option DiagnosticValue → List ℕ → List ℕ → Report
 locks_report form told old new =
-    of_both form told (λ old new. changes_report form (lock_changes old new))
-    (compared_of old) (compared_of new)
+    report_or_refusal (Some form) told (λ both. changes_report form (lock_changes both.0 both.1))
+    (both_of (compared_of old) (compared_of new))
 
--- the plans after the options, or the first option that is refused, of the old lock first
-abbrev pub after_both : Form → Option DiagnosticValue → Result State Choice → Result State Choice
-    → Report
-after_both form told (Err choice) new =
-    record { text = option_shown form told choice; status = 1 }
-after_both form told (Ok old) (Err choice) =
-    record { text = option_shown form told choice; status = 1 }
-after_both form told (Ok old) (Ok new) =
-    changes_report form (answer_changes old new (answer old) (answer new))
+-- both states after the options, or the first option that is refused
+abbrev pub both_chosen : List Choice → State × State → Result (State × State) Cause
+both_chosen choices both = do
+  old ← chosen_state choices both.0
+  new ← chosen_state choices both.1
+  Ok (old, new)
 
--- the same in an environment as it was read, which is judged after the locks
-abbrev pub installed : Form → Option DiagnosticValue → List Choice → EnvironmentRead
-    → LockValue → LockValue → Report
-installed form told choices (Err error) old new =
-    refused_file_report form told (Environment error)
-installed form told choices (Ok read) old new =
-    after_both form told (after_choices choices (first old read.0 read.1))
-    (after_choices choices (first new read.0 read.1))
+-- the states of both locks after the options, in an environment as it was read: both locks are
+-- judged before the environment, and that before an option
+abbrev pub plans_state : List Choice → List ℕ → List ℕ → EnvironmentRead
+    → Result (State × State) Cause
+plans_state choices old new read = do
+  locks ← both_of (lock_of old) (lock_of new)
+  environment ← environment_of read
+  both_chosen choices
+      (first locks.0 environment.0 environment.1, first locks.1 environment.0 environment.1)
 
 abbrev pub plans_report : Form → Option DiagnosticValue → List Choice → List ℕ → List ℕ
     → EnvironmentRead → Report
 plans_report form told choices old new read =
-    of_both form told (installed form told choices read) (lock_of old) (lock_of new)
+    report_or_refusal (Some form) told
+    (λ both. changes_report form (answer_changes both.0 both.1 (answer both.0) (answer both.1)))
+    (plans_state choices old new read)

@@ -2,4 +2,3 @@
 pub mod Answer
 pub mod Chosen
 pub mod Machine
-pub mod Telling

@@ -1,9 +1,10 @@
 pub mod Text
+pub mod Findings
 pub mod Refusal
+pub mod Opening
 pub mod Reply
 pub mod Choices
 pub mod Show
-pub mod Strict
 pub mod Diff
 pub mod Exports
 pub mod Paths

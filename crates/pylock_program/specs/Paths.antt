@@ -5,8 +5,8 @@ use Rattle.std.specs.Result.{result_map_both}
 use Rattle.std.specs.Str.{bytes_eq}
 use Rattle.pylock_command.specs.declared.machine.Machine.{Machine}
 use Rattle.pylock_command.specs.declared.machine.Machine.TheVariants as machine
-use Rattle.pylock_program.specs.declared.program.Failure.{Failure}
-use Rattle.pylock_program.specs.declared.program.Failure.TheVariants.{File, Memory, NamedFile}
+use Rattle.pylock_program.specs.declared.failure.Failure.{Failure}
+use Rattle.pylock_program.specs.declared.failure.Failure.TheVariants.{File, Memory}
 use Rattle.pylock_readers.specs.Environment.{EnvironmentRead, env_of}
 use Rattle.pylock_readers.specs.Target.{target_env_of}
 use Rattle.pylock_run.specs.Files.{Reads, most_file_bytes}
@@ -15,19 +15,10 @@ use Rattle.pylock_run.specs.Stream.Whole.{GivesAll, IsCause}
 use Rattle.pylock_run.specs.declared.stream.whole.FileFault.{FileFault}
 use Rattle.pylock_run.specs.declared.stream.whole.FileFault.TheVariants as file
 
--- how the program ends where a file can't be read, and the same where a person is told which file
--- it is, and why
+-- how the program ends where a file can't be read
 abbrev pub file_failure : FileFault → Failure
 file_failure file.Memory = Memory
 file_failure fault = File
-
-abbrev pub named_failure : FileFault → Failure
-named_failure file.Memory = Memory
-named_failure fault = NamedFile
-
-abbrev pub failure_by : Bool → FileFault → Failure
-failure_by false = file_failure
-failure_by true = named_failure
 
 abbrev pub is_input : List ℕ → Bool
 is_input path = bytes_eq path (codes "-")
@@ -44,19 +35,19 @@ pub record IsRead (gives : Reads) (path : List ℕ) (source source' : SourceValu
   pub input : is_input path ≡ true → GivesInput source source' read
   pub file : is_input path ≡ false → gives path read × (source' ≡ source)
 
--- the same, with the program's failure for a fault; a person is told of the file, or isn't
-pub record IsReadAs (named : Bool) (gives : Reads) (path : List ℕ)
-    (source source' : SourceValue) (result : Result (List ℕ) Failure) : Type 0 where
+-- the same, with the program's failure for a fault
+pub record IsReadAs (gives : Reads) (path : List ℕ) (source source' : SourceValue)
+    (result : Result (List ℕ) Failure) : Type 0 where
   pub read : Result (List ℕ) FileFault
   pub given : IsRead gives path source source' read
-  pub tells : result ≡ result_map_both (λ bytes. bytes) (failure_by named) read
+  pub tells : result ≡ result_map_both (λ bytes. bytes) file_failure read
 
 -- the environment of a machine is read: from its file, or it is that of the target
-abbrev pub IsMachineRead : Bool → Reads → Machine → SourceValue → SourceValue
+abbrev pub IsMachineRead : Reads → Machine → SourceValue → SourceValue
     → Result EnvironmentRead Failure → Type 0
-IsMachineRead named gives (machine.File path) source source' result =
-    (bytes : Result (List ℕ) Failure) × IsReadAs named gives path.now source source' bytes
+IsMachineRead gives (machine.File path) source source' result =
+    (bytes : Result (List ℕ) Failure) × IsReadAs gives path.now source source' bytes
     × (result ≡ result_map_both env_of (λ failure. failure) bytes)
-IsMachineRead named gives (machine.Target target) source source' result =
+IsMachineRead gives (machine.Target target) source source' result =
     (result ≡ Ok (target_env_of target.python.now target.platform.now))
     × (source' ≡ source)

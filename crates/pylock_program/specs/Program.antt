@@ -1,22 +1,20 @@
 -- What the program does with its task, and how it ends.
-use Rattle.std.specs.Prelude.{◌≡◌, ◌≢◌, ℕ, Bool, true, false, List, codes}
+use Rattle.std.specs.Prelude.{◌≡◌, ◌≢◌, ℕ, Bool, List, codes}
 use Rattle.std.specs.Prelude.{Option, Some, None}
 use Rattle.std.specs.Prelude.{Result, Ok, Err}
 use Rattle.std.specs.Result.{result_map_both}
 use Rattle.pylock_command.specs.declared.form.Form.{Form}
 use Rattle.pylock_command.specs.declared.machine.Machine.{Machine}
 use Rattle.pylock_command.specs.declared.task.Installation.{Installation}
-use Rattle.pylock_command.specs.declared.task.Selection.{Selection}
 use Rattle.pylock_command.specs.declared.task.Task.{Task}
 use Rattle.pylock_command.specs.declared.task.Task.TheVariants as task
 use Rattle.pylock_program.specs.Diff.{locks_report, plans_report}
-use Rattle.pylock_program.specs.Exports.{files_export, plan_export}
+use Rattle.pylock_program.specs.Opening.{opened_by}
 use Rattle.pylock_program.specs.Paths.{IsMachineRead, IsReadAs}
-use Rattle.pylock_program.specs.Refusal.{PrintsTelling}
-use Rattle.pylock_program.specs.Reply.{answer_report, audit_answer, files_answer, marker_answer}
-use Rattle.pylock_program.specs.Reply.{reply}
-use Rattle.pylock_program.specs.Show.{request_report, run_shown, unopened_report}
-use Rattle.pylock_program.specs.Strict.{opened_by}
+use Rattle.pylock_program.specs.Refusal.{PrintsTelling, refusal_report}
+use Rattle.pylock_program.specs.Reply.{audit_report, files_report, marker_report}
+use Rattle.pylock_program.specs.Reply.{target_report, text_report}
+use Rattle.pylock_program.specs.Show.{question_report, run_shown}
 use Rattle.pylock_core.specs.Session.State.{State}
 use Rattle.pylock_messages.specs.Diagnostic.{DiagnosticValue}
 use Rattle.pylock_readers.specs.Environment.{EnvironmentRead}
@@ -25,11 +23,11 @@ use Rattle.pylock_run.specs.Report.{Report}
 use Rattle.pylock_run.specs.Report.Print.{Prints}
 use Rattle.pylock_run.specs.Report.Run.{IsRunShown}
 use Rattle.pylock_run.specs.Stream.{SourceValue, SinkValue}
-use Rattle.pylock_program.specs.declared.program.Failure.{Failure}
-use Rattle.pylock_program.specs.declared.program.Failure.TheVariants.{NotText, File, Read, Write}
-use Rattle.pylock_program.specs.declared.program.Failure.TheVariants.{Input, NamedFile, Memory}
-use Rattle.pylock_program.specs.declared.reply.queries.Query.TheVariants as query
-use Rattle.pylock_program.specs.declared.strict.Unopened.{Unopened}
+use Rattle.pylock_program.specs.declared.failure.Failure.{Failure}
+use Rattle.pylock_program.specs.declared.failure.Failure.TheVariants.{NotText, File, Read, Write}
+use Rattle.pylock_program.specs.declared.failure.Failure.TheVariants.{Input, Memory}
+use Rattle.pylock_program.specs.declared.opening.Unopened.{Unopened}
+use Rattle.pylock_program.specs.declared.refusal.Cause.TheVariants as cause
 use Rattle.pylock_run.specs.declared.report.fault.RunFault.{RunFault}
 use Rattle.pylock_run.specs.declared.report.fault.RunFault.TheVariants as run
 
@@ -43,8 +41,7 @@ run_failure run.Memory = Memory
 -- what stands on standard error behind `pylock: `, where it isn't told yet
 abbrev pub failure_message : Failure → Option (List ℕ)
 failure_message NotText = Some (codes "a word of the command line is not UTF-8")
-failure_message File = Some (codes "file")
-failure_message NamedFile = None
+failure_message File = None
 failure_message Read = Some (codes "read")
 failure_message Write = Some (codes "write")
 failure_message Input = Some (codes "input")
@@ -57,7 +54,7 @@ failure_status _ = 3
 
 -- what stands there before a task is done where standard input is a terminal
 abbrev pub terminal_note : Task → Option (List ℕ)
-terminal_note (task.Select asked) =
+terminal_note (task.Select opening form) =
     Some (codes "edit lines are read from standard input; Ctrl-D ends them")
 terminal_note _ = None
 
@@ -93,13 +90,14 @@ abbrev pub IsRunOn : Form → Result State Unopened → SourceValue → SourceVa
 IsRunOn form (Ok state) source source' sink sink' result =
     IsRunShown (run_shown form) (Ok state) source source' sink sink' result
 IsRunOn form (Err unopened) source source' sink sink' result =
-    PrintsTelling (λ told. unopened_report form told unopened) sink sink' result
+    PrintsTelling (λ told. refusal_report (Some form) told (cause.Unopened unopened))
+    sink sink' result
     × (source' ≡ source)
 
 -- the run on a lock that is taken strictly, or isn't
-abbrev pub Runs : Selection → List ℕ → EnvironmentRead → Outcome
-Runs asked lock read source source' sink sink' result =
-    Tells (IsRunOn asked.form (opened_by asked.strict lock read) source source' sink sink') result
+abbrev pub Runs : Bool → Form → List ℕ → EnvironmentRead → Outcome
+Runs strict form lock read source source' sink sink' result =
+    Tells (IsRunOn form (opened_by strict lock read) source source' sink sink') result
 
 -- ---- what is read first
 
@@ -119,13 +117,13 @@ pub record After {A : Type 0} (IsGiven : SourceValue → SourceValue → Result 
   pub given : IsGiven source between read
   pub leads : LeadsTo outcome read between source' sink sink' result
 
--- what stands at a path; a person is told which file can't be read, or isn't
-abbrev pub Opens : Bool → Reads → List ℕ → (List ℕ → Outcome) → Outcome
-Opens named gives path = After (IsReadAs named gives path)
+-- what stands at a path
+abbrev pub Opens : Reads → List ℕ → (List ℕ → Outcome) → Outcome
+Opens gives path = After (IsReadAs gives path)
 
 -- the environment of a machine
-abbrev pub OpensMachine : Bool → Reads → Machine → (EnvironmentRead → Outcome) → Outcome
-OpensMachine named gives machine = After (IsMachineRead named gives machine)
+abbrev pub OpensMachine : Reads → Machine → (EnvironmentRead → Outcome) → Outcome
+OpensMachine gives machine = After (IsMachineRead gives machine)
 
 -- what the program prints without words; it takes no memory
 abbrev pub greeting : Report
@@ -138,42 +136,29 @@ Greets source source' sink sink' result =
 -- two locks are compared, or what they install on a machine
 abbrev pub Compares : Reads → Form → Option Installation → List ℕ → List ℕ → Outcome
 Compares gives form None old new = RepliesTelling (λ told. locks_report form told old new)
-Compares gives form (Some asked) old new = OpensMachine true gives asked.machine
+Compares gives form (Some asked) old new = OpensMachine gives asked.machine
     (λ read. RepliesTelling (λ told. plans_report form told asked.choices.items old new read))
 
 -- What the program does with each task, by what reads of files may give. `select`, `plan` and
 -- `explain` read the lock first, and then the environment.
 abbrev pub Performs : Reads → Task → Outcome
 Performs gives task.Bare = Greets
-Performs gives (task.Select asked) =
-    Opens false gives asked.lock.now (λ lock. OpensMachine false gives asked.machine
-    (Runs asked lock))
-Performs gives (task.Show request) =
-    Opens true gives request.lock.now (λ lock. OpensMachine true gives request.machine
-    (λ read. RepliesTelling (λ told. request_report request told lock read)))
-Performs gives (task.Files lock form) =
-    Opens true gives lock.now
-    (λ bytes. RepliesTelling (λ told. answer_report form told (files_answer form bytes)))
+Performs gives (task.Show question) =
+    Opens gives question.opening.lock.now (λ lock. OpensMachine gives question.opening.machine
+    (λ read. RepliesTelling (λ told. question_report question told lock read)))
+Performs gives (task.Select opening form) =
+    Opens gives opening.lock.now (λ lock. OpensMachine gives opening.machine
+    (Runs opening.strict form lock))
+Performs gives (task.Files lock output) =
+    Opens gives lock.now (λ bytes. RepliesTelling (λ told. files_report output told bytes))
 Performs gives (task.Audit lock form) =
-    Opens true gives lock.now
-    (λ bytes. RepliesTelling (λ told. answer_report form told (audit_answer form bytes)))
-Performs gives (task.ExportPlan asked) =
-    Opens true gives asked.lock.now (λ lock. OpensMachine true gives asked.machine
-    (λ read. Replies (plan_export asked lock read)))
-Performs gives (task.ExportFiles lock form) =
-    Opens true gives lock.now (λ bytes. Replies (files_export form bytes))
+    Opens gives lock.now (λ bytes. RepliesTelling (λ told. audit_report form told bytes))
 Performs gives (task.Diff asked) =
-    Opens true gives asked.old.now (λ old. Opens true gives asked.new.now
+    Opens gives asked.old.now (λ old. Opens gives asked.new.now
     (λ new. Compares gives asked.form asked.installation old new))
 Performs gives (task.Environment target) =
-    Replies (reply (query.Environment target.python target.platform))
-Performs gives (task.Version text form) = Replies (reply (query.Version text form))
-Performs gives (task.Match set version form) = Replies (reply (query.Match set version form))
-Performs gives (task.Name text form) = Replies (reply (query.Name text form))
+    RepliesTelling (λ told. target_report told target.python.now target.platform.now)
 Performs gives (task.Marker text machine form) =
-    OpensMachine false gives machine
-    (λ read. RepliesTelling
-    (λ told. answer_report form told (marker_answer form text.now read)))
-Performs gives (task.Requirement text form) = Replies (reply (query.Requirement text form))
-Performs gives (task.Wheel text form) = Replies (reply (query.Wheel text form))
-Performs gives (task.Sdist text form) = Replies (reply (query.Sdist text form))
+    OpensMachine gives machine
+    (λ read. RepliesTelling (λ told. marker_report form told text.now read))
+Performs gives (task.Text question form) = Replies (text_report question form)

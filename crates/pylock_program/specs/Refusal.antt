@@ -1,45 +1,114 @@
 -- What is printed in place of an answer, as a line or as a document. A document may tell more than
 -- the words of the line, such as where a file is wrong.
-use Rattle.std.specs.Prelude.{ℕ, List, [], ◌∷◌, codes, Option, None, Result}
+use Rattle.std.specs.Prelude.{ℕ, Bool, true, false, List, [], ◌∷◌, codes, Option, Some, None}
+use Rattle.std.specs.Prelude.{Result, Ok, Err}
+use Rattle.std.specs.Result.{result_map_both}
+use Rattle.pytext.specs.Agreement.{Gives}
 use Rattle.pylock_command.specs.Choices.{option_words}
 use Rattle.pylock_command.specs.declared.choice.Choice.{Choice}
 use Rattle.pylock_command.specs.declared.form.Form.{Form}
 use Rattle.pylock_command.specs.declared.form.Form.TheVariants.{Lines, Json}
 use Rattle.pylock_messages.specs.Diagnostic.{DiagnosticValue}
+use Rattle.pylock_readers.specs.declared.error.LockError.{LockError}
 use Rattle.pylock_run.specs.Report.{Report}
 use Rattle.pylock_run.specs.Report.Print.{Prints}
 use Rattle.pylock_run.specs.Stream.{SinkValue}
 use Rattle.pylock_run.specs.Text.Field.{field, line_of}
-use Rattle.pylock_run.specs.Text.Refusal.{refusal_text}
+use Rattle.pylock_run.specs.Text.Refusal.{refusal_text, side_text}
 use Rattle.pylock_run.specs.declared.report.fault.RunFault.{RunFault}
 use Rattle.pylock_run.specs.declared.report.opening.OpenError.{OpenError}
-use Rattle.pylock_program.specs.Text.Json.{option_json, refusal_json, words_json}
+use Rattle.pylock_run.specs.declared.report.opening.OpenError.TheVariants as open_error
+use Rattle.pylock_program.specs.Findings.{findings_shown}
+use Rattle.pylock_program.specs.Text.Json.{option_json, refusal_json, side_json, words_json}
+use Rattle.pylock_program.specs.declared.opening.Unopened.{Unopened}
+use Rattle.pylock_program.specs.declared.opening.Unopened.TheVariants.{Findings, Refused}
+use Rattle.pylock_program.specs.declared.refusal.Cause.{Cause}
+use Rattle.pylock_program.specs.declared.refusal.Cause.TheVariants as cause
+use Rattle.pylock_program.specs.declared.refusal.Refusal.{Refusal}
+use Rattle.pylock_program.specs.declared.refusal.Side.{Side as LockSide}
+use Rattle.pylock_program.specs.declared.refusal.Side.TheVariants.{Old, New}
 
 -- a text that is refused: its word
 abbrev pub refused_shown : Form → List ℕ → List ℕ
 refused_shown Lines word = line_of (codes "refused") (word ∷ [])
 refused_shown Json word = words_json (word ∷ []) None
 
--- an option that is refused: its word, without the dashes, and its text
-abbrev pub option_shown : Form → Option DiagnosticValue → Choice → List ℕ
-option_shown Lines told choice =
-    line_of (codes "refused") ((option_words choice).0 ∷ field (option_words choice).1 ∷ [])
-option_shown Json told choice = option_json choice told
+-- ---- why there is no answer, and what is told of that
 
--- a refused lock or environment, and what is told of it
+-- a refused lock or environment
 abbrev pub refusal_told : Form → Option DiagnosticValue → OpenError → List ℕ
 refusal_told Lines told refusal = refusal_text refusal
 refusal_told Json told refusal = refusal_json refusal told
 
--- the same where nothing is told
-abbrev pub refusal_shown : Form → OpenError → List ℕ
-refusal_shown form refusal = refusal_told form None refusal
+-- why there is no session
+abbrev pub unopened_told : Form → Option DiagnosticValue → Unopened → List ℕ
+unopened_told form told (Findings found) = findings_shown form found
+unopened_told form told (Refused refusal) = refusal_told form told refusal
 
-abbrev pub refused_file_report : Form → Option DiagnosticValue → OpenError → Report
-refused_file_report form told refusal = record { text = refusal_told form told refusal; status = 2 }
+-- a refused lock, of which `old` or `new` tells which of two it is
+abbrev pub side_word : LockSide → List ℕ
+side_word Old = codes "old"
+side_word New = codes "new"
+
+abbrev pub side_told : Form → Option DiagnosticValue → LockSide → LockError → List ℕ
+side_told Lines told side error = side_text (side_word side) error
+side_told Json told side error = side_json (side_word side) error told
+
+-- an option that is refused: its word, without the dashes, and its text
+abbrev pub option_told : Form → Option DiagnosticValue → Choice → List ℕ
+option_told Lines told choice =
+    line_of (codes "refused") ((option_words choice).0 ∷ field (option_words choice).1 ∷ [])
+option_told Json told choice = option_json choice told
+
+abbrev pub cause_told : Form → Option DiagnosticValue → Cause → List ℕ
+cause_told form told (cause.Unopened unopened) = unopened_told form told unopened
+cause_told form told (cause.Side side error) = side_told form told side error
+cause_told form told (cause.Option choice) = option_told form told choice
+
+-- 1: an option is refused
+abbrev pub cause_status : Cause → ℕ
+cause_status (cause.Option choice) = 1
+cause_status other = 2
+
+-- ---- what is printed
+
+-- nothing
+abbrev pub silence : ℕ → Report
+silence status = record { text = []; status = status }
+
+abbrev pub cause_report : Form → Option DiagnosticValue → Cause → Report
+cause_report form told because =
+    record { text = cause_told form told because; status = cause_status because }
+
+-- a refusal in a form; where the answer would be for another tool, nothing stands in its place
+abbrev pub refusal_report : Option Form → Option DiagnosticValue → Cause → Report
+refusal_report (Some form) told because = cause_report form told because
+refusal_report None told because = silence (cause_status because)
+
+-- what is printed of an answer, or in its place
+abbrev pub report_or_refusal : {V : Type 0} → Option Form → Option DiagnosticValue → (V → Report)
+    → Result V Cause → Report
+report_or_refusal form told report (Ok answer) = report answer
+report_or_refusal form told report (Err because) = refusal_report form told because
 
 -- A report is printed that may tell more of a refusal than its words; what it tells is left open.
 abbrev pub PrintsTelling : (Option DiagnosticValue → Report) → SinkValue → SinkValue
     → Result ℕ RunFault → Type 0
 PrintsTelling report sink sink' result =
     (told : Option DiagnosticValue) × Prints (report told) sink sink' result
+
+-- ---- what a call gives that may be refused
+
+-- memory ran out, which is no refusal, and is never printed
+abbrev pub out_of_memory : Cause
+out_of_memory = cause.Unopened (Refused open_error.Memory)
+
+abbrev pub is_memory : Cause → Bool
+is_memory (cause.Unopened (Refused open_error.Memory)) = true
+is_memory because = false
+
+-- the call gives what the definition gives, or is refused as the definition says, unless memory ran
+-- out
+abbrev pub GivesOr : {X V : Type 0} → (X → V) → Result X Refusal → Result V Cause → Type 0
+GivesOr view result definition = Gives out_of_memory view
+    (result_map_both (λ x. x) (λ refusal. refusal.cause) result) definition

@@ -32,7 +32,6 @@ use Rattle.pywheel_core.specs.declared.error.SdistError.TheVariants as sdist
 use Rattle.pywheel_core.specs.declared.error.WheelError.{WheelError}
 use Rattle.pywheel_core.specs.declared.error.WheelError.TheVariants as wheel
 use Rattle.pylock_readers.specs.Environment.{EnvironmentRead}
-use Rattle.pylock_readers.specs.Input.{input_env_of}
 use Rattle.pylock_readers.specs.Target.{target_refusal, target_text}
 use Rattle.pywheel_core.specs.Target.Reading.{target_of}
 use Rattle.pywheel_core.specs.Target.Value.{TargetValue}
@@ -44,23 +43,28 @@ use Rattle.pylock_command.specs.declared.form.Form.{Form}
 use Rattle.pylock_command.specs.declared.form.Form.TheVariants.{Lines, Json}
 use Rattle.pylock_readers.specs.Entry.{EntryValue}
 use Rattle.pylock_audit.specs.Audit.{findings_of}
-use Rattle.pylock_audit.specs.Document.{findings_rows}
-use Rattle.pylock_audit.specs.Finding.{LockFindingValue}
 use Rattle.pylock_documents.specs.Documents.{files_rows}
 use Rattle.pylock_documents.specs.Texts.{requirement_rows, sdist_rows, specifiers_text, wheel_rows}
 use Rattle.pylock_json.specs.Json.{there, truth}
 use Rattle.pylock_messages.specs.Diagnostic.{DiagnosticValue}
-use Rattle.pylock_run.specs.Report.{Report, refuse_as}
-use Rattle.pylock_run.specs.declared.report.opening.OpenError.{OpenError}
+use Rattle.pylock_run.specs.Report.{Report}
 use Rattle.pylock_run.specs.declared.report.opening.OpenError.TheVariants.{Lock, Environment}
-use Rattle.pylock_program.specs.Refusal.{refused_file_report, refused_shown}
-use Rattle.pylock_program.specs.Text.Audit.{findings_text}
+use Rattle.pylock_program.specs.Exports.{entries_exported}
+use Rattle.pylock_program.specs.Findings.{findings_report}
+use Rattle.pylock_program.specs.Opening.{environment_of}
+use Rattle.pylock_program.specs.Refusal.{refused_shown, report_or_refusal}
 use Rattle.pylock_program.specs.Text.Json.{fault_json, json_text}
 use Rattle.pylock_run.specs.Text.Field.{field, line_of}
 use Rattle.pylock_core.specs.Words.{fault_word}
 use Rattle.pylock_program.specs.Text.Files.{files_text}
-use Rattle.pylock_program.specs.declared.reply.queries.Query.{Query}
-use Rattle.pylock_program.specs.declared.reply.queries.Query.TheVariants as query
+use Rattle.pylock_program.specs.declared.opening.Unopened.TheVariants.{Refused}
+use Rattle.pylock_program.specs.declared.refusal.Cause.{Cause}
+use Rattle.pylock_program.specs.declared.refusal.Cause.TheVariants as cause
+use Rattle.pylock_command.specs.declared.task.FilesOutput.{FilesOutput}
+use Rattle.pylock_command.specs.declared.task.FilesOutput.TheVariants as output
+use Rattle.pylock_command.specs.declared.task.TextQuestion.{TextQuestion}
+use Rattle.pylock_command.specs.declared.task.TextQuestion.TheVariants as question
+use Rattle.pylock_readers.specs.declared.error.LockError.{LockError}
 
 -- ---- what is printed, and with which status
 
@@ -241,92 +245,73 @@ value_answer form marker environment = do
   Ok (truth_shown form (codes "marker") value)
 
 -- the environment that is read has no extra and no group
-abbrev pub marker_answer_in : Form → MarkerValue → EnvironmentRead → Result Report OpenError
+abbrev pub marker_answer_in : Form → MarkerValue → EnvironmentRead → Result Report Cause
 marker_answer_in form marker read = do
-  environment ← refuse_as Environment read
+  environment ← environment_of read
   Ok (reply_of (value_answer form marker environment.0))
 
 abbrev pub marker_answer_of : Form → EnvironmentRead → Result MarkerValue MarkerError
-    → Result Report OpenError
+    → Result Report Cause
 marker_answer_of form read (Ok marker) = marker_answer_in form marker read
 marker_answer_of form read (Err error) = Ok (refused_report form (marker_word error))
 
-abbrev pub marker_answer : Form → List ℕ → EnvironmentRead → Result Report OpenError
+abbrev pub marker_answer : Form → List ℕ → EnvironmentRead → Result Report Cause
 marker_answer form text read = marker_answer_of form read (marker_of text)
 
--- `environment --python PYTHON --platform PLATFORM`: the text of the target's environment, which is
--- JSON whatever the form
-abbrev pub target_answer_of : Result TargetValue TargetError → Result Report OpenError
-target_answer_of (Ok target) = Ok (answered (target_text target))
-target_answer_of (Err error) = Err (Environment (target_refusal error))
+abbrev pub marker_report : Form → Option DiagnosticValue → List ℕ → EnvironmentRead → Report
+marker_report form told text read =
+    report_or_refusal (Some form) told (λ report. report) (marker_answer form text read)
 
-abbrev pub target_answer : List ℕ → List ℕ → Result Report OpenError
+-- `environment --python PYTHON --platform PLATFORM`: the text of the target's environment
+abbrev pub target_answer_of : Result TargetValue TargetError → Result (List ℕ) Cause
+target_answer_of (Ok target) = Ok (target_text target)
+target_answer_of (Err error) = Err (cause.Unopened (Refused (Environment (target_refusal error))))
+
+abbrev pub target_answer : List ℕ → List ℕ → Result (List ℕ) Cause
 target_answer python platform = target_answer_of (target_of python platform)
+
+abbrev pub target_report : Option DiagnosticValue → List ℕ → List ℕ → Report
+target_report told python platform =
+    report_or_refusal (Some Lines) told answered (target_answer python platform)
+
+-- what is read of a lock, or the refusal of the lock
+abbrev pub read_or_refused : {V : Type 0} → Result V LockError → Result V Cause
+read_or_refused read =
+    result_map_both (λ v. v) (λ error. cause.Unopened (Refused (Lock error))) read
 
 -- `files LOCK`: every source that the lock names
 abbrev pub files_shown : Form → List EntryValue → List ℕ
 files_shown Lines entries = files_text entries
 files_shown Json entries = json_text (files_rows entries)
 
-abbrev pub files_answer : Form → List ℕ → Result Report OpenError
-files_answer form bytes = do
-  lock ← refuse_as Lock (lock_of bytes)
-  Ok (answered (files_shown form lock.entries))
+abbrev pub entries_report : FilesOutput → List EntryValue → Report
+entries_report (output.Shown form) entries = answered (files_shown form entries)
+entries_report (output.Tool format) entries = entries_exported format entries
+
+-- the form in which a refusal is printed; none where the sources would be for another tool
+abbrev pub files_form : FilesOutput → Option Form
+files_form (output.Shown form) = Some form
+files_form (output.Tool format) = None
+
+abbrev pub files_report : FilesOutput → Option DiagnosticValue → List ℕ → Report
+files_report output told bytes =
+    report_or_refusal (files_form output) told (λ lock. entries_report output lock.entries)
+    (read_or_refused (lock_of bytes))
 
 -- `audit LOCK`: what a careful reader would want to be told; status 1 where that is something
-abbrev pub findings_shown : Form → List LockFindingValue → List ℕ
-findings_shown Lines found = findings_text found
-findings_shown Json found = json_text (findings_rows found)
+abbrev pub audit_report : Form → Option DiagnosticValue → List ℕ → Report
+audit_report form told bytes =
+    report_or_refusal (Some form) told (findings_report form) (read_or_refused (findings_of bytes))
 
-abbrev pub findings_status : List LockFindingValue → ℕ
-findings_status [] = 0
-findings_status (one ∷ others) = 1
+-- ---- answers on a text
 
-abbrev pub findings_report : Form → List LockFindingValue → Report
-findings_report form found =
-    record { text = findings_shown form found; status = findings_status found }
+abbrev pub text_answer : TextQuestion → Form → Result (List ℕ) Report
+text_answer (question.Version text) form = version_answer form text.now
+text_answer (question.Match set version) form = match_answer form set.now version.now
+text_answer (question.Name text) form = name_answer form text.now
+text_answer (question.Requirement text) form = requirement_answer form text.now
+text_answer (question.Wheel text) form = wheel_answer form text.now
+text_answer (question.Sdist text) form = sdist_answer form text.now
 
-abbrev pub audit_answer : Form → List ℕ → Result Report OpenError
-audit_answer form bytes = do
-  found ← refuse_as Lock (findings_of bytes)
-  Ok (findings_report form found)
-
--- ---- the reply
-
--- the answer, or the refusal of the file that is asked about
-abbrev pub query_answer : Query → Result Report OpenError
-query_answer (query.Files lock form) = files_answer form lock.now
-query_answer (query.Audit lock form) = audit_answer form lock.now
-query_answer (query.Environment python platform) = target_answer python.now platform.now
-query_answer (query.Version text form) = Ok (reply_of (version_answer form text.now))
-query_answer (query.Match set version form) = Ok (reply_of (match_answer form set.now version.now))
-query_answer (query.Name text form) = Ok (reply_of (name_answer form text.now))
-query_answer (query.Marker text input form) = marker_answer form text.now (input_env_of input)
-query_answer (query.Requirement text form) = Ok (reply_of (requirement_answer form text.now))
-query_answer (query.Wheel text form) = Ok (reply_of (wheel_answer form text.now))
-query_answer (query.Sdist text form) = Ok (reply_of (sdist_answer form text.now))
-
-abbrev pub query_form : Query → Form
-query_form (query.Files lock form) = form
-query_form (query.Audit lock form) = form
-query_form (query.Environment python platform) = Lines
-query_form (query.Version text form) = form
-query_form (query.Match set version form) = form
-query_form (query.Name text form) = form
-query_form (query.Marker text environment form) = form
-query_form (query.Requirement text form) = form
-query_form (query.Wheel text form) = form
-query_form (query.Sdist text form) = form
-
--- what is printed of an answer; or of the refusal of the file, with what is told of it
-abbrev pub answer_report : Form → Option DiagnosticValue → Result Report OpenError → Report
-answer_report form told (Ok report) = report
-answer_report form told (Err refusal) = refused_file_report form told refusal
-
--- what a query prints, and its status
-abbrev pub reply_told : Option DiagnosticValue → Query → Report
-reply_told told query = answer_report (query_form query) told (query_answer query)
-
--- the same where nothing is told
-abbrev pub reply : Query → Report
-reply query = reply_told None query
+abbrev pub text_report : TextQuestion → Form → Report
+text_report question form = reply_of (text_answer question form)

@@ -1,44 +1,82 @@
 //! What changed from one lock to another, or from one plan to the other.
 
 ghost use Rattle.std.specs.Prelude.{◌≡◌, IfOk};
+ghost use Rattle.std.specs.Result.{result_map_both};
 ghost use Rattle.pylock_core.specs.Session.State.{first};
-ghost use Rattle.pylock_program.specs.Choices.{after_choices};
-ghost use Rattle.pylock_program.specs.Diff.{after_both, changes_report, changes_status, installed};
-ghost use Rattle.pylock_program.specs.Diff.{locks_report, plans_report, side_report};
 ghost use Rattle.pylock_core.specs.Session.Steps.{answer};
 ghost use Rattle.pylock_diff.specs.Changes.{answer_changes, lock_changes};
+ghost use Rattle.pylock_diff.specs.Compared.{compared_of};
 ghost use Rattle.pylock_diff.specs.Document.{changes_rows};
-ghost use Rattle.pylock_program.specs.Inner.Telling.{PushesTelling};
+ghost use Rattle.pylock_program.specs.Diff.{both_chosen, both_of, changes_report, changes_status};
+ghost use Rattle.pylock_program.specs.Diff.{locks_report, plans_report, plans_state};
 ghost use Rattle.pylock_program.specs.Inner.Machine.{machine_read};
-ghost use Rattle.pylock_program.specs.Refusal.{PrintsTelling, option_shown};
+ghost use Rattle.pylock_program.specs.Program.{Compares, Opens, OpensMachine, RepliesTelling};
+ghost use Rattle.pylock_program.specs.Refusal.{GivesOr, PrintsTelling};
 ghost use Rattle.pylock_program.specs.Text.Json.{json_text};
+ghost use Rattle.pylock_program.specs.declared.refusal.Cause.TheVariants as cause;
+ghost use Rattle.pylock_readers.specs.Lock.Reading.{lock_of};
 ghost use Rattle.pylock_run.specs.Report.Print.{Prints};
 
-use crate::choices::make_choices;
-use crate::file::{FileBytes, MachineInput};
-use crate::notes::options::option_diagnostic;
-use crate::notes::refusal::told_in;
-use crate::notes::tell_beside;
-use crate::program::REFUSED;
-use crate::reply::write_refused_file;
-use crate::show::push_refused_option;
+use crate::failure::{Failure, program_end};
+use crate::file::{FileBytes, MachineInput, read_bytes, read_machine};
+use crate::host::{Host, Outputs};
+use crate::opening::{choose, read_environment};
+use crate::refusal::{Refusal, Side, write_refusal};
 use crate::text::diff::write_changes;
-use crate::text::json::push_side_json;
-use pylock_command::{Choice, Form};
-use pylock_core::{EnvError, Lock, LockError, Session};
+use pylock_command::{Choice, Comparison, Form, Installation};
+use pylock_core::{Lock, LockError, Session};
 use pylock_diff::{Change, Compared, diff_document, lock_changes, plan_changes, read_compared};
 use pylock_documents::push_document;
-use pylock_messages::{Diagnostic, lock_diagnostic};
-use pylock_run::{OpenError, RunFault, Sink, print, push_side_error};
+use pylock_run::{Files, RunFault, Sink, Source, print};
 use pymark_core::Environment;
 use pywheel_core::TagList;
 use std::alloc::{AllocError, Global};
 
 /// The files of two locks.
 #[derive(Clone, Copy)]
-pub(crate) struct Sides<'a> {
-    pub(crate) old: &'a FileBytes<'a>,
-    pub(crate) new: &'a FileBytes<'a>,
+struct Sides<'a> {
+    old: &'a FileBytes<'a>,
+    new: &'a FileBytes<'a>,
+}
+
+/// Answers `diff` on two locks, or on what they install.
+pub(crate) fn compare<F: Files, R: Source, W: Sink, N: Sink>(
+    alloc: Global,
+    asked: &Comparison<'_>,
+    host: &mut Host<F, R, W, N>,
+) -> Result<u8, Failure>
+    ensures { Opens (F.read_gives host.old.files) asked.now.old.now
+        (λ old. Opens (F.read_gives host.old.files) asked.now.new.now
+        (λ new. Compares (F.read_gives host.old.files) asked.now.form asked.now.installation
+        old new))
+        (R.value host.old.reader) (R.value host.new.reader)
+        (W.value host.old.outputs.writer) (W.value host.new.outputs.writer) result }
+{
+    let old = read_bytes(alloc, host, asked.old)?;
+    let new = read_bytes(alloc, host, asked.new)?;
+    let sides = Sides {
+        old: &old,
+        new: &new,
+    };
+    compare_sides(alloc, asked, sides, host)
+}
+
+/// Answers `diff` on two locks that were read.
+fn compare_sides<F: Files, R: Source, W: Sink, N: Sink>(
+    alloc: Global,
+    asked: &Comparison<'_>,
+    sides: Sides<'_>,
+    host: &mut Host<F, R, W, N>,
+) -> Result<u8, Failure>
+    ensures { Compares (F.read_gives host.old.files) asked.now.form asked.now.installation
+        sides.entry.old.now.bytes.items sides.entry.new.now.bytes.items
+        (R.value host.old.reader) (R.value host.new.reader)
+        (W.value host.old.outputs.writer) (W.value host.new.outputs.writer) result }
+{
+    match &asked.installation {
+        None => program_end(write_lock_diff(alloc, asked.form, sides, &mut host.outputs)),
+        Some(installation) => compare_plans(alloc, asked.form, installation, sides, host),
+    }
 }
 
 /// Writes what changed from one lock to the other, and answers the status: 0 where nothing did, 1
@@ -46,27 +84,42 @@ pub(crate) struct Sides<'a> {
 /// where that points. It takes memory for both locks with the codes of all their keys, for tables
 /// of their sources, and for the changes, which share names and what a file is called; and where
 /// they are a document for that. A line is written as it is made.
-pub(crate) fn write_lock_diff<W: Sink, N: Sink>(
+#[tactic(auto, using(crate::proofs::OpeningLemmas::refused))]
+fn write_lock_diff<W: Sink, N: Sink>(
     alloc: Global,
     form: Form,
     sides: Sides<'_>,
-    writer: &mut W,
-    notes: &mut N,
+    outputs: &mut Outputs<W, N>,
 ) -> Result<u8, RunFault>
     ensures { PrintsTelling (λ told. locks_report form told sides.entry.old.now.bytes.items
-        sides.entry.new.now.bytes.items) (W.value writer.old) (W.value writer.new) result }
+        sides.entry.new.now.bytes.items)
+        (W.value outputs.old.writer) (W.value outputs.new.writer) result }
 {
-    let old = match read_compared(alloc, &sides.old.bytes) {
-        Ok(compared) => compared,
-        Err(LockError::Memory) => return Err(RunFault::Memory),
-        Err(error) => return write_side(alloc, form, ("old", sides.old), error, writer, notes),
-    };
-    let new = match read_compared(alloc, &sides.new.bytes) {
-        Ok(compared) => compared,
-        Err(LockError::Memory) => return Err(RunFault::Memory),
-        Err(error) => return write_side(alloc, form, ("new", sides.new), error, writer, notes),
-    };
-    write_locks(alloc, form, &old, &new, writer)
+    match read_both(alloc, sides) {
+        Ok((old, new)) => write_locks(alloc, form, &old, &new, &mut outputs.writer),
+        Err(refusal) => write_refusal(alloc, Some(form), refusal, outputs),
+    }
+}
+
+/// Both locks as they are compared.
+fn read_both(alloc: Global, sides: Sides<'_>) -> Result<(Compared, Compared), Refusal<'static>>
+    ensures { GivesOr (λ both. both) result (both_of (compared_of sides.entry.old.now.bytes.items)
+        (compared_of sides.entry.new.now.bytes.items)) }
+{
+    let old = read_side(alloc, Side::Old, sides.old)?;
+    let new = read_side(alloc, Side::New, sides.new)?;
+    Ok((old, new))
+}
+
+fn read_side(alloc: Global, side: Side, file: &FileBytes<'_>) -> Result<Compared, Refusal<'static>>
+    ensures { GivesOr (λ lock. lock) result (result_map_both (λ lock. lock) (cause.Side side)
+        (compared_of file.now.bytes.items)) }
+{
+    match read_compared(alloc, &file.bytes) {
+        Ok(lock) => Ok(lock),
+        Err(LockError::Memory) => Err(Refusal::of_memory()),
+        Err(error) => Err(Refusal::of_side(alloc, side, error, file)),
+    }
 }
 
 /// Writes what changed from one lock that was read to the other.
@@ -82,46 +135,6 @@ fn write_locks<W: Sink>(
 {
     let changes = lock_changes(alloc, old, new)?;
     write_shown(alloc, form, &changes, writer)
-}
-
-/// Writes a refused lock, behind the word for which one it is, and to `notes` a line for a person.
-fn write_side<W: Sink, N: Sink>(
-    alloc: Global,
-    form: Form,
-    side: (&str, &FileBytes<'_>),
-    error: LockError,
-    writer: &mut W,
-    notes: &mut N,
-) -> Result<u8, RunFault>
-    ensures { PrintsTelling (λ told. side_report form told side.entry.0.now error)
-        (W.value writer.old) (W.value writer.new) result }
-{
-    let mut out = Vec::new(alloc);
-    let (status, told) = push_side(alloc, &mut out, form, side.0, side.1, error)?;
-    let end = print(&out, status, writer);
-    tell_beside(alloc, notes, &end, told.as_ref());
-    end
-}
-
-/// Pushes a refused lock, of which `side` tells which it is, and answers the status and what is
-/// told.
-fn push_side(
-    alloc: Global,
-    out: &mut Vec<u8>,
-    form: Form,
-    side: &str,
-    file: &FileBytes<'_>,
-    error: LockError,
-) -> Result<(u8, Option<Diagnostic>), AllocError>
-    ensures { PushesTelling out.old.items out.new.items
-        (λ told. side_report form told side.now error) result }
-{
-    let told = told_in(form, lock_diagnostic(alloc, file.path, &file.bytes, &error))?;
-    match form {
-        Form::Lines => push_side_error(out, side, &error)?,
-        Form::Json => push_side_json(alloc, out, side, &error, told.as_ref())?,
-    }
-    Ok((REFUSED, told))
 }
 
 /// Writes the changes, and answers whether there are any.
@@ -163,71 +176,98 @@ fn write_document<W: Sink>(
     print(&out, status, writer)
 }
 
-/// Writes what changed from what one lock installs in an environment to what the other does, each
-/// after the options, and answers the status: that of [`write_lock_diff`], 1 where an option is
-/// refused, and 2 where the environment is.
-pub(crate) fn write_plan_diff<W: Sink, N: Sink>(
-    alloc: Global,
-    form: Form,
-    choices: &[Choice<'_>],
-    sides: Sides<'_>,
-    machine: &MachineInput<'_>,
-    writer: &mut W,
-    notes: &mut N,
-) -> Result<u8, RunFault>
-    ensures { PrintsTelling (λ told. plans_report form told choices.now
-        sides.entry.old.now.bytes.items sides.entry.new.now.bytes.items (machine_read machine.now))
-        (W.value writer.old) (W.value writer.new) result }
-{
-    let old = match Lock::read(alloc, &sides.old.bytes) {
-        Ok(lock) => lock,
-        Err(LockError::Memory) => return Err(RunFault::Memory),
-        Err(error) => return write_side(alloc, form, ("old", sides.old), error, writer, notes),
-    };
-    let new = match Lock::read(alloc, &sides.new.bytes) {
-        Ok(lock) => lock,
-        Err(LockError::Memory) => return Err(RunFault::Memory),
-        Err(error) => return write_side(alloc, form, ("new", sides.new), error, writer, notes),
-    };
-    write_installed(
-        alloc,
-        form,
-        choices,
-        (old, new),
-        (sides.old.path, machine),
-        writer,
-        notes,
-    )
+// ---- what two locks install
+
+/// What is compared where plans are: two locks on a machine, after options.
+#[derive(Clone, Copy)]
+struct Plans<'a> {
+    sides: Sides<'a>,
+    machine: &'a MachineInput<'a>,
+    choices: &'a [Choice<'a>],
 }
 
-/// The same of two locks that were read, the old one from the file of this path.
-fn write_installed<W: Sink, N: Sink>(
+/// Answers `diff` on what two locks that were read install.
+fn compare_plans<F: Files, R: Source, W: Sink, N: Sink>(
     alloc: Global,
     form: Form,
-    choices: &[Choice<'_>],
-    locks: (Lock, Lock),
-    named: (&str, &MachineInput<'_>),
-    writer: &mut W,
-    notes: &mut N,
-) -> Result<u8, RunFault>
-    ensures { PrintsTelling (λ told. installed form told choices.now
-        (machine_read named.entry.1.now) locks.0 locks.1)
-        (W.value writer.old) (W.value writer.new) result }
+    installation: &Installation<'_>,
+    sides: Sides<'_>,
+    host: &mut Host<F, R, W, N>,
+) -> Result<u8, Failure>
+    ensures { OpensMachine (F.read_gives host.old.files) installation.now.machine
+        (λ read. RepliesTelling (λ told. plans_report form told installation.now.choices.items
+        sides.entry.old.now.bytes.items sides.entry.new.now.bytes.items read))
+        (R.value host.old.reader) (R.value host.new.reader)
+        (W.value host.old.outputs.writer) (W.value host.new.outputs.writer) result }
 {
-    match named.1.input().read(alloc) {
-        Ok((environment, tags)) => {
-            let (mut old, mut new) = match start_both(alloc, locks, environment, tags) {
-                Ok(both) => both,
-                Err(AllocError) => return Err(RunFault::Memory),
-            };
-            let sessions = (&mut old, &mut new);
-            write_after_choices(alloc, form, choices, sessions, named.0, writer, notes)
-        }
-        Err(EnvError::Memory) => Err(RunFault::Memory),
-        Err(error) => {
-            let refusal = OpenError::Environment(error);
-            write_refused_file(alloc, form, &refusal, named.1.named(), writer, notes)
-        }
+    let machine = read_machine(alloc, host, installation.machine)?;
+    let plans = Plans {
+        sides,
+        machine: &machine,
+        choices: &installation.choices,
+    };
+    program_end(write_plan_diff(alloc, form, plans, &mut host.outputs))
+}
+
+/// Writes what changed from what one lock installs on a machine to what the other does, each after
+/// the options, and answers the status: that of [`write_lock_diff`], 1 where an option is refused,
+/// and 2 where the environment is.
+#[tactic(auto, using(crate::proofs::OpeningLemmas::refused))]
+fn write_plan_diff<W: Sink, N: Sink>(
+    alloc: Global,
+    form: Form,
+    plans: Plans<'_>,
+    outputs: &mut Outputs<W, N>,
+) -> Result<u8, RunFault>
+    ensures { PrintsTelling (λ told. plans_report form told plans.entry.choices.now
+        plans.entry.sides.old.now.bytes.items plans.entry.sides.new.now.bytes.items
+        (machine_read plans.entry.machine.now))
+        (W.value outputs.old.writer) (W.value outputs.new.writer) result }
+{
+    match open_both(alloc, plans) {
+        Ok((old, new)) => write_plans(alloc, form, &old, &new, &mut outputs.writer),
+        Err(refusal) => write_refusal(alloc, Some(form), refusal, outputs),
+    }
+}
+
+/// The sessions on both locks after the options: both locks are judged before the environment, and
+/// that before an option.
+fn open_both<'a>(alloc: Global, plans: Plans<'a>) -> Result<(Session, Session), Refusal<'a>>
+    ensures { GivesOr (λ both. (both.0.state, both.1.state)) result
+        (plans_state plans.entry.choices.now plans.entry.sides.old.now.bytes.items
+        plans.entry.sides.new.now.bytes.items (machine_read plans.entry.machine.now)) }
+{
+    let old = lock_on(alloc, Side::Old, plans.sides.old)?;
+    let new = lock_on(alloc, Side::New, plans.sides.new)?;
+    let (environment, tags) = read_environment(alloc, plans.machine)?;
+    let sessions = start_both(alloc, (old, new), environment, tags)?;
+    choose_both(alloc, sessions, plans.choices, plans.sides.old.path)
+}
+
+/// Makes the edits of the options on the old session, and then on the new one.
+fn choose_both<'a>(
+    alloc: Global,
+    sessions: (Session, Session),
+    choices: &[Choice<'a>],
+    path: &str,
+) -> Result<(Session, Session), Refusal<'a>>
+    ensures { GivesOr (λ both. (both.0.state, both.1.state)) result
+        (both_chosen choices.now (sessions.0.state, sessions.1.state)) }
+{
+    let (mut old, mut new) = sessions;
+    choose(alloc, &mut old, choices, path)?;
+    choose(alloc, &mut new, choices, path)?;
+    Ok((old, new))
+}
+
+fn lock_on(alloc: Global, side: Side, file: &FileBytes<'_>) -> Result<Lock, Refusal<'static>>
+    ensures { GivesOr (λ lock. lock) result (result_map_both (λ lock. lock) (cause.Side side)
+        (lock_of file.now.bytes.items)) }
+{
+    match Lock::read(alloc, &file.bytes) {
+        Ok(lock) => Ok(lock),
+        Err(LockError::Memory) => Err(Refusal::of_memory()),
+        Err(error) => Err(Refusal::of_side(alloc, side, error, file)),
     }
 }
 
@@ -248,36 +288,6 @@ fn start_both(
     Ok((old, new))
 }
 
-/// Writes what changed from one session to the other after the options, or the first option that is
-/// refused.
-fn write_after_choices<W: Sink, N: Sink>(
-    alloc: Global,
-    form: Form,
-    choices: &[Choice<'_>],
-    sessions: (&mut Session, &mut Session),
-    path: &str,
-    writer: &mut W,
-    notes: &mut N,
-) -> Result<u8, RunFault>
-    ensures { PrintsTelling (λ told. after_both form told
-        (after_choices choices.now sessions.entry.0.now.state)
-        (after_choices choices.now sessions.entry.1.now.state))
-        (W.value writer.old) (W.value writer.new) result }
-{
-    let (old, new) = sessions;
-    match make_choices(alloc, old, choices) {
-        Ok(None) => {}
-        Ok(Some(choice)) => return write_option(alloc, form, choice, path, writer, notes),
-        Err(AllocError) => return Err(RunFault::Memory),
-    }
-    match make_choices(alloc, new, choices) {
-        Ok(None) => {}
-        Ok(Some(choice)) => return write_option(alloc, form, choice, path, writer, notes),
-        Err(AllocError) => return Err(RunFault::Memory),
-    }
-    write_plans(alloc, form, old, new, writer)
-}
-
 /// Writes what changed from the answer of one session to that of the other.
 fn write_plans<W: Sink>(
     alloc: Global,
@@ -292,40 +302,4 @@ fn write_plans<W: Sink>(
 {
     let changes = plan_changes(alloc, old, new)?;
     write_shown(alloc, form, &changes, writer)
-}
-
-/// Writes a refused option, and to `notes` a line for a person.
-fn write_option<W: Sink, N: Sink>(
-    alloc: Global,
-    form: Form,
-    choice: Choice<'_>,
-    path: &str,
-    writer: &mut W,
-    notes: &mut N,
-) -> Result<u8, RunFault>
-    ensures { PrintsTelling (λ told.
-        record { text = option_shown form told choice.entry; status = 1 })
-        (W.value writer.old) (W.value writer.new) result }
-{
-    let mut out = Vec::new(alloc);
-    let (status, told) = push_option(alloc, &mut out, form, choice, path)?;
-    let end = print(&out, status, writer);
-    tell_beside(alloc, notes, &end, told.as_ref());
-    end
-}
-
-/// Pushes a refused option, and answers the status and what is told.
-fn push_option(
-    alloc: Global,
-    out: &mut Vec<u8>,
-    form: Form,
-    choice: Choice<'_>,
-    path: &str,
-) -> Result<(u8, Option<Diagnostic>), AllocError>
-    ensures { PushesTelling out.old.items out.new.items (λ told.
-        record { text = option_shown form told choice.entry; status = 1 }) result }
-{
-    let told = told_in(form, option_diagnostic(alloc, path, choice))?;
-    push_refused_option(alloc, out, form, choice, told.as_ref())?;
-    Ok((1, told))
 }

@@ -1,14 +1,14 @@
-//! Files that are named on the command line, of which `-` is standard input, and the machines whose
-//! environments they hold.
+//! What the paths of the command line give: `-` is standard input, and any other path a file.
 
 ghost use Rattle.std.specs.Prelude.{◌≡◌};
 ghost use Rattle.std.specs.Result.{result_map_both};
-ghost use Rattle.pylock_readers.specs.Input.{input_env_of};
-ghost use Rattle.pylock_program.specs.Paths.{IsMachineRead, IsRead, IsReadAs};
 ghost use Rattle.pylock_program.specs.Inner.Machine.{machine_read};
+ghost use Rattle.pylock_program.specs.Paths.{IsMachineRead, IsRead, IsReadAs};
+ghost use Rattle.pylock_readers.specs.Input.{input_env_of};
 
+use crate::failure::Failure;
+use crate::host::Host;
 use crate::notes::file::tell_file;
-use crate::program::Failure;
 use pylock_command::{Machine, TargetWords};
 use pylock_core::EnvironmentInput;
 use pylock_run::{FileFault, Files, Sink, Source, read_file};
@@ -19,35 +19,6 @@ use std::alloc::Global;
 pub(crate) struct FileBytes<'a> {
     pub(crate) path: &'a str,
     pub(crate) bytes: Vec<u8>,
-}
-
-impl FileBytes<'_> {
-    /// The same, lent.
-    pub(crate) fn named(&self) -> NamedInput<'_> {
-        NamedInput::File {
-            path: self.path,
-            bytes: &self.bytes,
-        }
-    }
-}
-
-/// What may be refused, with what a person is told of it by.
-#[derive(Clone, Copy)]
-pub(crate) enum NamedInput<'a> {
-    /// A file, by its path as it was given.
-    File {
-        /// Its path.
-        path: &'a str,
-        /// Its bytes.
-        bytes: &'a [u8],
-    },
-    /// The words of a target.
-    Target {
-        /// The word of its Python.
-        python: &'a str,
-        /// The word of its platform.
-        platform: &'a str,
-    },
 }
 
 /// What the environment of a machine is made of.
@@ -72,17 +43,13 @@ impl<'a> MachineInput<'a> {
             },
         }
     }
+}
 
-    /// The same, as a person is told of it.
-    pub(crate) fn named(&self) -> NamedInput<'_> {
-        match self {
-            MachineInput::File(file) => file.named(),
-            MachineInput::Target(target) => NamedInput::Target {
-                python: target.python,
-                platform: target.platform,
-            },
-        }
-    }
+/// What a session is opened on, as it was read.
+#[derive(Clone, Copy)]
+pub(crate) struct Inputs<'a> {
+    pub(crate) lock: &'a FileBytes<'a>,
+    pub(crate) machine: &'a MachineInput<'a>,
 }
 
 /// What stands at a path: standard input, or a file.
@@ -102,48 +69,42 @@ fn read_path<F: Files, R: Source>(
     }
 }
 
-/// The same with its path. Where it is `named`, a person is told which file can't be read, and why.
-pub(crate) fn read_bytes<'a, F: Files, R: Source, N: Sink>(
+/// The same with its path. A person is told which file can't be read, and why.
+pub(crate) fn read_bytes<'a, F: Files, R: Source, W: Sink, N: Sink>(
     alloc: Global,
-    files: &F,
-    reader: &mut R,
+    host: &mut Host<F, R, W, N>,
     path: &'a str,
-    named: bool,
-    notes: &mut N,
 ) -> Result<FileBytes<'a>, Failure>
-    ensures { IsReadAs named (F.read_gives files.now) path.now
-        (R.value reader.old) (R.value reader.new)
+    ensures read { IsReadAs (F.read_gives host.old.files) path.now
+        (R.value host.old.reader) (R.value host.new.reader)
         (result_map_both (λ file. file.bytes.items) (λ failure. failure) result) }
+    ensures files { host.new.files ≡ host.old.files }
+    ensures writer { host.new.outputs.writer ≡ host.old.outputs.writer }
 {
-    match read_path(alloc, files, reader, path) {
+    match read_path(alloc, &host.files, &mut host.reader, path) {
         Ok(bytes) => Ok(FileBytes { path, bytes }),
         Err(FileFault::Memory) => Err(Failure::Memory),
-        Err(fault) if named => {
-            tell_file(alloc, notes, path, fault);
-            Err(Failure::NamedFile)
+        Err(fault) => {
+            tell_file(alloc, &mut host.outputs.notes, path, fault);
+            Err(Failure::File)
         }
-        Err(_) => Err(Failure::File),
     }
 }
 
 /// What the environment of a machine is made of; of a file as [`read_bytes`] reads it.
-pub(crate) fn read_machine<'a, F: Files, R: Source, N: Sink>(
+pub(crate) fn read_machine<'a, F: Files, R: Source, W: Sink, N: Sink>(
     alloc: Global,
-    files: &F,
-    reader: &mut R,
+    host: &mut Host<F, R, W, N>,
     machine: Machine<'a>,
-    named: bool,
-    notes: &mut N,
 ) -> Result<MachineInput<'a>, Failure>
-    ensures { IsMachineRead named (F.read_gives files.now) machine.entry
-        (R.value reader.old) (R.value reader.new)
+    ensures read { IsMachineRead (F.read_gives host.old.files) machine.entry
+        (R.value host.old.reader) (R.value host.new.reader)
         (result_map_both machine_read (λ failure. failure) result) }
+    ensures files { host.new.files ≡ host.old.files }
+    ensures writer { host.new.outputs.writer ≡ host.old.outputs.writer }
 {
     match machine {
-        Machine::File(path) => {
-            let file = read_bytes(alloc, files, reader, path, named, notes)?;
-            Ok(MachineInput::File(file))
-        }
+        Machine::File(path) => Ok(MachineInput::File(read_bytes(alloc, host, path)?)),
         Machine::Target(target) => Ok(MachineInput::Target(target)),
     }
 }

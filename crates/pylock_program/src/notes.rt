@@ -7,8 +7,7 @@ pub(crate) mod file;
 pub(crate) mod options;
 pub(crate) mod refusal;
 
-use pylock_messages::Diagnostic;
-use pylock_run::{RunFault, Sink, write_all};
+use pylock_run::{Sink, write_all};
 use pylock_shown::push_visible;
 use std::alloc::{AllocError, Global};
 
@@ -30,29 +29,6 @@ pub(crate) fn tell_made<N: Sink>(alloc: Global, notes: &mut N, text: Result<Stri
 /// Writes lines as they stand. Where the write fails, they are left out.
 pub(crate) fn tell_bytes<N: Sink>(notes: &mut N, lines: &[u8]) {
     let _ = write_all(notes, lines);
-}
-
-/// Tells the line of what is wrong, where it was found.
-pub(crate) fn tell_diagnostic<N: Sink>(
-    alloc: Global,
-    notes: &mut N,
-    found: Result<Option<Diagnostic>, AllocError>,
-) {
-    if let Ok(Some(found)) = found {
-        tell(alloc, notes, found.message());
-    }
-}
-
-/// Tells what a call told beside its answer, once that is written.
-pub(crate) fn tell_beside<N: Sink>(
-    alloc: Global,
-    notes: &mut N,
-    end: &Result<u8, RunFault>,
-    told: Option<&Diagnostic>,
-) {
-    if let (Ok(_), Some(told)) = (end, told) {
-        tell(alloc, notes, told.message());
-    }
 }
 
 fn note_line(alloc: Global, text: &str) -> Result<Vec<u8>, AllocError> {

@@ -1,139 +1,212 @@
-//! The replies of the one-shot commands.
+//! What `files`, `audit`, `marker`, `environment` and the questions on a text print.
 
-ghost use Rattle.std.specs.Prelude.{◌≡◌, ◌++◌, IfOk, OnOk};
-ghost use Rattle.pylock_readers.specs.Input.{input_env_of};
-ghost use Rattle.pylock_program.specs.Inner.Answer.{PushesAnswer};
-ghost use Rattle.pylock_program.specs.Inner.Telling.{PushesTelling};
+ghost use Rattle.std.specs.Prelude.{◌≡◌, ◌++◌, OnOk, Some, None, string_bytes};
 ghost use Rattle.pylock_command.specs.declared.form.Form.TheVariants.{Json};
-ghost use Rattle.pylock_program.specs.Refusal.{PrintsTelling, refused_file_report};
-ghost use Rattle.pylock_program.specs.Reply.{answer_report, audit_answer, files_answer};
-ghost use Rattle.pylock_program.specs.Reply.{files_shown, findings_report, findings_shown};
-ghost use Rattle.pylock_program.specs.Reply.{findings_status};
-ghost use Rattle.pylock_program.specs.Reply.{marker_answer, marker_answer_in};
-ghost use Rattle.pylock_program.specs.Reply.{query_answer, reply, reply_of, reply_told};
-ghost use Rattle.pylock_program.specs.Reply.{target_answer};
+ghost use Rattle.pylock_command.specs.declared.task.FilesOutput.TheVariants.{Shown};
+ghost use Rattle.pylock_program.specs.Findings.{findings_report, findings_shown, findings_status};
+ghost use Rattle.pylock_program.specs.Inner.Answer.{PushesOr};
+ghost use Rattle.pylock_program.specs.Inner.Machine.{machine_read};
+ghost use Rattle.pylock_program.specs.Program.{Opens, OpensMachine, RepliesTelling};
+ghost use Rattle.pylock_program.specs.Refusal.{GivesOr, PrintsTelling, refusal_report};
+ghost use Rattle.pylock_program.specs.Reply.{audit_report, entries_report, files_form};
+ghost use Rattle.pylock_program.specs.Reply.{files_report, files_shown, marker_answer};
+ghost use Rattle.pylock_program.specs.Reply.{marker_answer_in, marker_report, reply_of};
+ghost use Rattle.pylock_program.specs.Reply.{target_answer, target_report, text_report};
 ghost use Rattle.pylock_program.specs.Reply.{value_answer};
+ghost use Rattle.pylock_program.specs.declared.opening.Unopened.TheVariants as unopened;
+ghost use Rattle.pylock_program.specs.declared.refusal.Cause.TheVariants as cause;
 ghost use Rattle.pylock_run.specs.Report.Print.{Prints, Pushes};
+ghost use Rattle.pylock_run.specs.declared.report.opening.OpenError.TheVariants as open_error;
 
-pub mod queries;
 mod texts;
 
-use crate::file::{FileBytes, NamedInput};
-use crate::notes::refusal::{refusal_diagnostic, told_in};
-use crate::notes::tell_beside;
-use crate::program::REFUSED;
-use crate::reply::queries::Query;
+use crate::export::write_files_export;
+use crate::failure::{Failure, program_end};
+use crate::file::{FileBytes, MachineInput, read_bytes, read_machine};
+use crate::host::{Host, Outputs};
+use crate::notes::expected::{tell_marker, tell_text};
+use crate::opening::read_environment;
+use crate::refusal::{REFUSED, Refusal, push_found, push_open_error, write_refusal};
 use crate::reply::texts::{
     push_fault, push_match, push_name, push_requirement, push_sdist, push_truth, push_version,
     push_wheel, push_word_refused,
 };
-use crate::show::{push_open_error, push_refusal_told};
-use crate::strict::push_found;
 use crate::text::audit::write_findings;
-use crate::text::files::push_files;
+use crate::text::files::push_entries;
 use pylock_audit::{LockFinding, read_audited};
-use pylock_command::Form;
-use pylock_core::{
-    Entry, EnvError, EnvironmentInput, FaultCode, Lock, LockError, environment_text,
-};
+use pylock_command::{FilesOutput, Form, Machine, TargetWords, TextQuestion};
+use pylock_core::{Entry, EnvError, FaultCode, Lock, LockError, environment_text};
 use pylock_documents::{files_document, push_document};
-use pylock_messages::Diagnostic;
-use pylock_run::{OpenError, RunFault, Sink, print};
+use pylock_run::{Files, OpenError, RunFault, Sink, Source, print};
 use pymark_core::{Environment, EvalFault, Marker, MarkerError};
 use pywheel_core::{Target, TargetError};
 use std::alloc::{AllocError, Global};
 use std::mem;
 
-/// Writes the reply of a one-shot command, and answers the program's status: 0 for an answer, 1
-/// where a text is refused or a marker has a fault, 2 where the environment is refused. After a
-/// fault a prefix of the reply is written. Takes memory for what it parses and for the reply.
-///
-/// `leaves` says whether the process ends next: then the memory of a lock is left to the system,
-/// which takes all of it at once.
-pub fn query<W: Sink>(
+/// The status where a text is refused.
+const REFUSED_TEXT: u8 = 1;
+
+// ---- every source of a lock
+
+/// Answers `files` on the lock of a file. The memory of the lock is left to the system, for the
+/// program ends then.
+pub(crate) fn list_files<F: Files, R: Source, W: Sink, N: Sink>(
     alloc: Global,
-    query: Query<'_>,
-    leaves: bool,
-    writer: &mut W,
-) -> Result<u8, RunFault>
-    ensures { Prints (reply query.entry) (W.value writer.old) (W.value writer.new) result }
+    lock: &str,
+    output: FilesOutput,
+    host: &mut Host<F, R, W, N>,
+) -> Result<u8, Failure>
+    ensures { Opens (F.read_gives host.old.files) lock.now
+        (λ bytes. RepliesTelling (λ told. files_report output told bytes))
+        (R.value host.old.reader) (R.value host.new.reader)
+        (W.value host.old.outputs.writer) (W.value host.new.outputs.writer) result }
 {
-    let mut out = Vec::new(alloc);
-    let status = push_reply(alloc, &mut out, query, leaves)?;
-    print(&out, status, writer)
+    let file = read_bytes(alloc, host, lock)?;
+    program_end(write_files(alloc, output, &file, &mut host.outputs))
 }
 
-/// Pushes the reply of a one-shot command, and answers the status of [`query`], which says what
-/// `leaves` is.
-#[tactic(auto, using(crate::proofs::ReplyLemmas::pushed_answer))]
-pub fn push_reply(
+#[tactic(auto, using(crate::proofs::OpeningLemmas::refused))]
+fn write_files<W: Sink, N: Sink>(
     alloc: Global,
-    out: &mut Vec<u8>,
-    query: Query<'_>,
-    leaves: bool,
-) -> Result<u8, AllocError>
-    ensures { Pushes out.old.items out.new.items (reply query.entry) result }
+    output: FilesOutput,
+    file: &FileBytes<'_>,
+    outputs: &mut Outputs<W, N>,
+) -> Result<u8, RunFault>
+    ensures { PrintsTelling (λ told. files_report output told file.now.bytes.items)
+        (W.value outputs.old.writer) (W.value outputs.new.writer) result }
 {
-    match push_answer(alloc, out, query, leaves) {
-        Ok(status) => Ok(status),
-        Err(OpenError::Memory) => Err(AllocError),
-        Err(refusal) => {
-            push_open_error(alloc, out, query.form(), &refusal)?;
-            Ok(REFUSED)
+    match Lock::read(alloc, &file.bytes) {
+        Ok(lock) => {
+            let end = write_entries(alloc, output, lock.entries(), outputs);
+            mem::forget(lock);
+            end
+        }
+        Err(LockError::Memory) => Err(RunFault::Memory),
+        Err(error) => {
+            let refusal = Refusal::of_lock(alloc, error, file);
+            write_refusal(alloc, files_form(output), refusal, outputs)
         }
     }
 }
 
-/// Writes the reply on a lock or an environment, as [`query`] does, and to `notes` a line for a
-/// person on its refusal; what can't be written there is left out. A document tells that line too,
-/// and where it points, which no clause pins.
-pub(crate) fn query_file<W: Sink, N: Sink>(
-    alloc: Global,
-    query: Query<'_>,
-    asked_of: NamedInput<'_>,
-    writer: &mut W,
-    notes: &mut N,
-) -> Result<u8, RunFault>
-    ensures { PrintsTelling (λ told. reply_told told query.entry)
-        (W.value writer.old) (W.value writer.new) result }
+/// The form in which a refusal is printed; none where the sources would be for another tool.
+fn files_form(output: FilesOutput) -> Option<Form>
+    ensures { result ≡ files_form output }
 {
-    let mut out = Vec::new(alloc);
-    let (status, told) = push_reply_told(alloc, &mut out, query, asked_of)?;
-    let end = print(&out, status, writer);
-    tell_beside(alloc, notes, &end, told.as_ref());
-    end
+    match output {
+        FilesOutput::Shown(form) => Some(form),
+        FilesOutput::Tool(_) => None,
+    }
 }
 
-/// Writes the reply on the findings of a lock, as [`query_file`] does. A line is written as it is
-/// made: it takes memory for the findings, which share what a file is called, and not for the
-/// lines.
-pub(crate) fn audit_file<W: Sink, N: Sink>(
+/// Writes every source of the entries.
+fn write_entries<W: Sink, N: Sink>(
+    alloc: Global,
+    output: FilesOutput,
+    entries: &[Entry],
+    outputs: &mut Outputs<W, N>,
+) -> Result<u8, RunFault>
+    ensures { Prints (entries_report output entries.now)
+        (W.value outputs.old.writer) (W.value outputs.new.writer) result }
+{
+    match output {
+        FilesOutput::Shown(form) => {
+            let mut out = Vec::new(alloc);
+            push_sources(alloc, &mut out, form, entries)?;
+            print(&out, 0, &mut outputs.writer)
+        }
+        FilesOutput::Tool(format) => write_files_export(alloc, format, entries, outputs),
+    }
+}
+
+fn push_sources(
+    alloc: Global,
+    out: &mut Vec<u8>,
+    form: Form,
+    entries: &[Entry],
+) -> Result<(), AllocError>
+    ensures { OnOk result (out.new.items ≡ out.old.items ++ files_shown form entries.now) }
+{
+    match form {
+        Form::Lines => push_entries(alloc, out, entries),
+        Form::Json => push_document(alloc, out, files_document(alloc, entries)?),
+    }
+}
+
+/// Pushes what `files` prints of a lock, which is given by the bytes of its TOML text (PEP 751),
+/// and answers the status. It takes memory for the lock and for what it pushes.
+pub fn push_files(
+    alloc: Global,
+    out: &mut Vec<u8>,
+    form: Form,
+    lock: &[u8],
+) -> Result<u8, AllocError>
+    ensures { Pushes out.old.items out.new.items (files_report (Shown form) None lock.now) result }
+{
+    match Lock::read(alloc, lock) {
+        Ok(lock) => {
+            push_sources(alloc, out, form, lock.entries())?;
+            Ok(0)
+        }
+        Err(LockError::Memory) => Err(AllocError),
+        Err(error) => push_refused_lock(alloc, out, form, error),
+    }
+}
+
+/// Pushes the refusal of a lock, and answers its status.
+fn push_refused_lock(
+    alloc: Global,
+    out: &mut Vec<u8>,
+    form: Form,
+    error: LockError,
+) -> Result<u8, AllocError>
+    ensures { Pushes out.old.items out.new.items (refusal_report (Some form) None
+        (cause.Unopened (unopened.Refused (open_error.Lock error)))) result }
+{
+    push_open_error(alloc, out, form, &OpenError::Lock(error), None)?;
+    Ok(REFUSED)
+}
+
+// ---- what is found in a lock
+
+/// Answers `audit` on the lock of a file.
+pub(crate) fn audit_lock<F: Files, R: Source, W: Sink, N: Sink>(
+    alloc: Global,
+    lock: &str,
+    form: Form,
+    host: &mut Host<F, R, W, N>,
+) -> Result<u8, Failure>
+    ensures { Opens (F.read_gives host.old.files) lock.now
+        (λ bytes. RepliesTelling (λ told. audit_report form told bytes))
+        (R.value host.old.reader) (R.value host.new.reader)
+        (W.value host.old.outputs.writer) (W.value host.new.outputs.writer) result }
+{
+    let file = read_bytes(alloc, host, lock)?;
+    program_end(write_audit(alloc, form, &file, &mut host.outputs))
+}
+
+/// A line is written as it is made: it takes memory for the findings, which share what a file is
+/// called, and not for the lines.
+#[tactic(auto, using(crate::proofs::OpeningLemmas::refused))]
+fn write_audit<W: Sink, N: Sink>(
     alloc: Global,
     form: Form,
-    lock: &FileBytes<'_>,
-    writer: &mut W,
-    notes: &mut N,
+    file: &FileBytes<'_>,
+    outputs: &mut Outputs<W, N>,
 ) -> Result<u8, RunFault>
-    ensures { PrintsTelling (λ told. answer_report form told
-        (audit_answer form lock.now.bytes.items))
-        (W.value writer.old) (W.value writer.new) result }
+    ensures { PrintsTelling (λ told. audit_report form told file.now.bytes.items)
+        (W.value outputs.old.writer) (W.value outputs.new.writer) result }
 {
-    match read_audited(alloc, &lock.bytes) {
+    match read_audited(alloc, &file.bytes) {
         Ok((read, found)) => {
-            let end = write_found(alloc, form, found.as_slice(), writer);
+            let end = write_found(alloc, form, found.as_slice(), &mut outputs.writer);
             mem::forget((read, found));
             end
         }
         Err(LockError::Memory) => Err(RunFault::Memory),
         Err(error) => {
-            write_refused_file(
-                alloc,
-                form,
-                &OpenError::Lock(error),
-                lock.named(),
-                writer,
-                notes,
-            )
+            let refusal = Refusal::of_lock(alloc, error, file);
+            write_refusal(alloc, Some(form), refusal, outputs)
         }
     }
 }
@@ -169,178 +242,24 @@ fn write_findings_document<W: Sink>(
     print(&out, status, writer)
 }
 
-/// Writes the refusal of a file, and to `notes` a line for a person.
-pub(crate) fn write_refused_file<W: Sink, N: Sink>(
-    alloc: Global,
-    form: Form,
-    refusal: &OpenError,
-    asked_of: NamedInput<'_>,
-    writer: &mut W,
-    notes: &mut N,
-) -> Result<u8, RunFault>
-    ensures { PrintsTelling (λ told. refused_file_report form told refusal.now)
-        (W.value writer.old) (W.value writer.new) result }
-{
-    let mut out = Vec::new(alloc);
-    let (status, told) = push_refused_file(alloc, &mut out, form, refusal, asked_of)?;
-    let end = print(&out, status, writer);
-    tell_beside(alloc, notes, &end, told.as_ref());
-    end
-}
-
-/// Pushes the refusal of a file, and answers the status and what is told.
-fn push_refused_file(
-    alloc: Global,
-    out: &mut Vec<u8>,
-    form: Form,
-    refusal: &OpenError,
-    asked_of: NamedInput<'_>,
-) -> Result<(u8, Option<Diagnostic>), AllocError>
-    ensures { PushesTelling out.old.items out.new.items
-        (λ told. refused_file_report form told refusal.now) result }
-{
-    let told = told_in(form, refusal_diagnostic(alloc, refusal, asked_of, asked_of))?;
-    push_refusal_told(alloc, out, form, refusal, told.as_ref())?;
-    Ok((REFUSED, told))
-}
-
-/// Pushes that reply, and answers the status and what is told of a refusal.
-#[tactic(auto, using(crate::proofs::ReplyLemmas::pushed_answer))]
-fn push_reply_told(
-    alloc: Global,
-    out: &mut Vec<u8>,
-    query: Query<'_>,
-    asked_of: NamedInput<'_>,
-) -> Result<(u8, Option<Diagnostic>), AllocError>
-    ensures { PushesTelling out.old.items out.new.items (λ told. reply_told told query.entry)
-        result }
-{
-    match push_answer(alloc, out, query, true) {
-        Ok(status) => Ok((status, None)),
-        Err(OpenError::Memory) => Err(AllocError),
-        Err(refusal) => push_refused_file(alloc, out, query.form(), &refusal, asked_of),
-    }
-}
-
-/// Pushes the answer, or gives the refusal of the file that is asked about.
-fn push_answer(
-    alloc: Global,
-    out: &mut Vec<u8>,
-    query: Query<'_>,
-    leaves: bool,
-) -> Result<u8, OpenError>
-    ensures { PushesAnswer out.old.items out.new.items (query_answer query.entry) result }
-{
-    let status = match query {
-        Query::Files(lock, form) => return push_listing(alloc, out, form, lock, leaves),
-        Query::Audit(lock, form) => return push_audit(alloc, out, form, lock, leaves),
-        Query::Marker(text, environment, form) => {
-            return push_marker(alloc, out, form, text, environment);
-        }
-        Query::Environment(python, platform) => {
-            return push_target(alloc, out, python, platform);
-        }
-        Query::Version(text, form) => push_version(alloc, out, form, text)?,
-        Query::Match(set, version, form) => push_match(alloc, out, form, set, version)?,
-        Query::Name(text, form) => push_name(alloc, out, form, text)?,
-        Query::Requirement(text, form) => push_requirement(alloc, out, form, text)?,
-        Query::Wheel(text, form) => push_wheel(alloc, out, form, text)?,
-        Query::Sdist(text, form) => push_sdist(alloc, out, form, text)?,
-    };
-    Ok(status)
-}
-
-/// Pushes the text of the environment of a target.
-fn push_target(
-    alloc: Global,
-    out: &mut Vec<u8>,
-    python: &str,
-    platform: &str,
-) -> Result<u8, OpenError>
-    ensures { PushesAnswer out.old.items out.new.items
-        (target_answer python.now platform.now) result }
-{
-    match Target::parse(python, platform) {
-        Ok(target) => {
-            let text = environment_text(alloc, &target)?;
-            out.extend_from_slice(text.as_bytes())?;
-            Ok(0)
-        }
-        Err(TargetError::Python) => Err(OpenError::Environment(EnvError::Python)),
-        Err(TargetError::Platform) => Err(OpenError::Environment(EnvError::Platform)),
-    }
-}
-
-fn push_listing(
+/// Pushes what `audit` prints of a lock, which is given by the bytes of its TOML text, and answers
+/// the status. It takes memory for the lock, the findings and what it pushes.
+pub fn push_audit(
     alloc: Global,
     out: &mut Vec<u8>,
     form: Form,
     lock: &[u8],
-    leaves: bool,
-) -> Result<u8, OpenError>
-    ensures { PushesAnswer out.old.items out.new.items (files_answer form lock.now) result }
-{
-    match Lock::read(alloc, lock) {
-        Ok(lock) => {
-            let status = push_files_in(alloc, out, form, lock.entries())?;
-            if leaves {
-                mem::forget(lock);
-            }
-            Ok(status)
-        }
-        Err(LockError::Memory) => Err(OpenError::Memory),
-        Err(error) => Err(OpenError::Lock(error)),
-    }
-}
-
-fn push_files_in(
-    alloc: Global,
-    out: &mut Vec<u8>,
-    form: Form,
-    entries: &[Entry],
 ) -> Result<u8, AllocError>
-    ensures text { OnOk result (out.new.items ≡ out.old.items ++ files_shown form entries.now) }
-    ensures status { IfOk result (λ status. status ≡ 0) }
-{
-    match form {
-        Form::Lines => push_files(alloc, out, entries)?,
-        Form::Json => push_document(alloc, out, files_document(alloc, entries)?)?,
-    }
-    Ok(0)
-}
-
-fn push_audit(
-    alloc: Global,
-    out: &mut Vec<u8>,
-    form: Form,
-    lock: &[u8],
-    leaves: bool,
-) -> Result<u8, OpenError>
-    ensures { PushesAnswer out.old.items out.new.items (audit_answer form lock.now) result }
+    ensures { Pushes out.old.items out.new.items (audit_report form None lock.now) result }
 {
     match read_audited(alloc, lock) {
-        Ok((lock, found)) => {
-            let status = push_findings_in(alloc, out, form, found.as_slice())?;
-            if leaves {
-                mem::forget((lock, found));
-            }
-            Ok(status)
+        Ok((_, found)) => {
+            push_found(alloc, out, form, found.as_slice())?;
+            Ok(findings_status(found.as_slice()))
         }
-        Err(LockError::Memory) => Err(OpenError::Memory),
-        Err(error) => Err(OpenError::Lock(error)),
+        Err(LockError::Memory) => Err(AllocError),
+        Err(error) => push_refused_lock(alloc, out, form, error),
     }
-}
-
-fn push_findings_in(
-    alloc: Global,
-    out: &mut Vec<u8>,
-    form: Form,
-    found: &[LockFinding],
-) -> Result<u8, AllocError>
-    ensures { Pushes out.old.items out.new.items (findings_report form found.now) result }
-{
-    push_found(alloc, out, form, found)?;
-    Ok(findings_status(found))
 }
 
 /// Whether there are any.
@@ -350,23 +269,67 @@ fn findings_status(found: &[LockFinding]) -> u8
     if found.is_empty() { 0 } else { 1 }
 }
 
+// ---- a marker on a machine
+
+/// Answers `marker` in the environment of a machine.
+pub(crate) fn judge_marker<F: Files, R: Source, W: Sink, N: Sink>(
+    alloc: Global,
+    marker: &str,
+    machine: Machine<'_>,
+    form: Form,
+    host: &mut Host<F, R, W, N>,
+) -> Result<u8, Failure>
+    ensures { OpensMachine (F.read_gives host.old.files) machine.entry
+        (λ read. RepliesTelling (λ told. marker_report form told marker.now read))
+        (R.value host.old.reader) (R.value host.new.reader)
+        (W.value host.old.outputs.writer) (W.value host.new.outputs.writer) result }
+{
+    let machine = read_machine(alloc, host, machine)?;
+    program_end(write_marker(alloc, form, marker, &machine, &mut host.outputs))
+}
+
+/// A person is told what was expected where the marker is refused.
+#[tactic(auto, using(crate::proofs::OpeningLemmas::refused))]
+fn write_marker<W: Sink, N: Sink>(
+    alloc: Global,
+    form: Form,
+    text: &str,
+    machine: &MachineInput<'_>,
+    outputs: &mut Outputs<W, N>,
+) -> Result<u8, RunFault>
+    ensures { PrintsTelling (λ told. marker_report form told text.now (machine_read machine.now))
+        (W.value outputs.old.writer) (W.value outputs.new.writer) result }
+{
+    let mut out = Vec::new(alloc);
+    match push_marker(alloc, &mut out, form, text, machine) {
+        Ok(status) => {
+            let end = print(&out, status, &mut outputs.writer);
+            if let Ok(REFUSED_TEXT) = end {
+                tell_marker(alloc, &mut outputs.notes, text);
+            }
+            end
+        }
+        Err(refusal) => write_refusal(alloc, Some(form), refusal, outputs),
+    }
+}
+
 /// The marker's text is judged before the environment.
 fn push_marker(
     alloc: Global,
     out: &mut Vec<u8>,
     form: Form,
     text: &str,
-    environment: EnvironmentInput<'_>,
-) -> Result<u8, OpenError>
-    ensures { PushesAnswer out.old.items out.new.items
-        (marker_answer form text.now (input_env_of environment.entry)) result }
+    machine: &MachineInput<'_>,
+) -> Result<u8, Refusal<'static>>
+    ensures { PushesOr out.old.items out.new.items
+        (marker_answer form text.now (machine_read machine.now)) result }
 {
     let word = match Marker::parse(alloc, text) {
-        Ok(marker) => return push_marker_in(alloc, out, form, &marker, environment),
+        Ok(marker) => return push_marker_in(alloc, out, form, &marker, machine),
         Err(MarkerError::TooDeep) => "too-deep",
         Err(MarkerError::Syntax) => "syntax",
         Err(MarkerError::SetMisuse) => "set-misuse",
-        Err(MarkerError::Memory) => return Err(OpenError::Memory),
+        Err(MarkerError::Memory) => return Err(Refusal::of_memory()),
     };
     Ok(push_word_refused(alloc, out, form, word)?)
 }
@@ -377,16 +340,13 @@ fn push_marker_in(
     out: &mut Vec<u8>,
     form: Form,
     marker: &Marker,
-    environment: EnvironmentInput<'_>,
-) -> Result<u8, OpenError>
-    ensures { PushesAnswer out.old.items out.new.items
-        (marker_answer_in form marker.now (input_env_of environment.entry)) result }
+    machine: &MachineInput<'_>,
+) -> Result<u8, Refusal<'static>>
+    ensures { PushesOr out.old.items out.new.items
+        (marker_answer_in form marker.now (machine_read machine.now)) result }
 {
-    match environment.read(alloc) {
-        Ok((environment, _tags)) => Ok(push_value(alloc, out, form, marker, &environment)?),
-        Err(EnvError::Memory) => Err(OpenError::Memory),
-        Err(error) => Err(OpenError::Environment(error)),
-    }
+    let (environment, _tags) = read_environment(alloc, machine)?;
+    Ok(push_value(alloc, out, form, marker, &environment)?)
 }
 
 /// Whether a marker is true, or its fault.
@@ -404,5 +364,76 @@ fn push_value(
         Ok(value) => push_truth(alloc, out, form, "marker", value),
         Err(EvalFault::Memory) => Err(AllocError),
         Err(fault) => push_fault(alloc, out, form, FaultCode::from(fault)),
+    }
+}
+
+// ---- the environment of a target
+
+/// Prints the environment of a target.
+#[tactic(auto, using(crate::proofs::OpeningLemmas::refused))]
+pub(crate) fn print_target<W: Sink, N: Sink>(
+    alloc: Global,
+    target: TargetWords<'_>,
+    outputs: &mut Outputs<W, N>,
+) -> Result<u8, RunFault>
+    ensures { PrintsTelling
+        (λ told. target_report told target.entry.python.now target.entry.platform.now)
+        (W.value outputs.old.writer) (W.value outputs.new.writer) result }
+{
+    match target_text(alloc, target) {
+        Ok(text) => print(text.as_bytes(), 0, &mut outputs.writer),
+        Err(refusal) => write_refusal(alloc, Some(Form::Lines), refusal, outputs),
+    }
+}
+
+fn target_text(alloc: Global, target: TargetWords<'_>) -> Result<String, Refusal<'static>>
+    ensures { GivesOr string_bytes result
+        (target_answer target.entry.python.now target.entry.platform.now) }
+{
+    let error = match Target::parse(target.python, target.platform) {
+        Ok(target) => return Ok(environment_text(alloc, &target)?),
+        Err(TargetError::Python) => EnvError::Python,
+        Err(TargetError::Platform) => EnvError::Platform,
+    };
+    Err(Refusal::of_environment(alloc, error, &MachineInput::Target(target)))
+}
+
+// ---- a text by itself
+
+/// Answers a question on a text, of which a person is told what was expected where it is refused.
+/// It takes memory for what it parses and for the answer.
+pub(crate) fn answer_text<W: Sink, N: Sink>(
+    alloc: Global,
+    question: TextQuestion<'_>,
+    form: Form,
+    outputs: &mut Outputs<W, N>,
+) -> Result<u8, RunFault>
+    ensures { Prints (text_report question.entry form)
+        (W.value outputs.old.writer) (W.value outputs.new.writer) result }
+{
+    let mut out = Vec::new(alloc);
+    let status = push_answer(alloc, &mut out, question, form)?;
+    let end = print(&out, status, &mut outputs.writer);
+    if let Ok(REFUSED_TEXT) = end {
+        tell_text(alloc, &mut outputs.notes, question);
+    }
+    end
+}
+
+fn push_answer(
+    alloc: Global,
+    out: &mut Vec<u8>,
+    question: TextQuestion<'_>,
+    form: Form,
+) -> Result<u8, AllocError>
+    ensures { Pushes out.old.items out.new.items (text_report question.entry form) result }
+{
+    match question {
+        TextQuestion::Version(text) => push_version(alloc, out, form, text),
+        TextQuestion::Match(set, version) => push_match(alloc, out, form, set, version),
+        TextQuestion::Name(text) => push_name(alloc, out, form, text),
+        TextQuestion::Requirement(text) => push_requirement(alloc, out, form, text),
+        TextQuestion::Wheel(text) => push_wheel(alloc, out, form, text),
+        TextQuestion::Sdist(text) => push_sdist(alloc, out, form, text),
     }
 }

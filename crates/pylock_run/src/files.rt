@@ -2,7 +2,7 @@
 
 ghost use Rattle.std.specs.Prelude.{◌≡◌, ◌≢◌, IfErr, IfOk};
 ghost use Rattle.std.specs.Result.{result_map_both};
-ghost use Rattle.pylock_run.specs.Files.{Reads, ReadsBoth, most_file_bytes};
+ghost use Rattle.pylock_run.specs.Files.{Reads, most_file_bytes};
 ghost use Rattle.pylock_run.specs.Stream.Whole.{GivesAll, IsCause};
 ghost use Rattle.pylock_run.specs.declared.stream.whole.FileFault.TheVariants as file_fault;
 
@@ -48,19 +48,4 @@ pub fn read_file<R: Source>(alloc: Global, file: &mut R) -> Result<Vec<u8>, File
     ensures fault { IfErr result (IsCause most_file_bytes (R.value file.old) (R.value file.new)) }
 {
     read_whole(alloc, file, FILE_BYTES)
-}
-
-/// All bytes of two files, of which the first is read first: where it can't be read, the second
-/// isn't looked at.
-pub fn read_both<F: Files>(
-    files: &F,
-    first: &str,
-    second: &str,
-) -> Result<(Vec<u8>, Vec<u8>), FileFault>
-    ensures { ReadsBoth (F.read_gives files.now) first.now second.now
-        (result_map_both (λ both. (both.0.items, both.1.items)) (λ fault. fault) result) }
-{
-    let first = files.read(first)?;
-    let second = files.read(second)?;
-    Ok((first, second))
 }

@@ -25,11 +25,10 @@ mod report;
 mod stream;
 mod text;
 
-pub use files::{FILE_BYTES, Files, open_fault, read_both, read_file};
+pub use files::{FILE_BYTES, Files, open_fault, read_file};
 pub use line::commands::{Command, policy_argument, variable_argument};
 pub use line::refusal::LineRefusal;
 pub use line::{LINE_LIMIT, read_line};
-pub use report::editing::push_current_answer;
 pub use report::fault::RunFault;
 pub use report::opening::{OpenError, open, open_in, open_on};
 pub use report::print::print;

@@ -81,8 +81,8 @@ impl Requirement {
     /// The specifiers of the requirement that the text is, as they are written, without the
     /// parentheses round them (PEP 508, "Grammar"); `None` where it has a URL.
     ///
-    /// Of a text that is no requirement it answers a refusal or any piece of it. It takes memory for
-    /// the extras, and gives it back.
+    /// Of a text that is no requirement it answers a refusal or any piece of it. It takes memory
+    /// for the extras, and gives it back.
     #[tactic(auto, unfolding(crate::specs::Requirement::Reading::written_set_of))]
     pub fn written_set(alloc: Global, text: &str) -> Result<Option<&str>, RequirementError>
         ensures { Gives RequirementError.Memory (λ set. option_map (λ t. t.now) set) result

@@ -5,7 +5,7 @@ use Rattle.pylock_exports.specs.Listed.{ListedValue}
 use Rattle.pylock_exports.specs.Requirements.{is_in, part_of, requirement_check, requirement_line}
 use Rattle.pylock_exports.specs.Requirements.{source_requirements}
 use Rattle.pylock_exports.specs.Texts.{lines_text}
-use Rattle.pylock_exports.specs.declared.format.PlanPart.{PlanPart}
+use Rattle.pylock_exports.specs.declared.requirements.PlanPart.{PlanPart}
 use Rattle.pylock_exports.specs.declared.refusal.ExportError.{ExportError}
 
 -- a text, and behind it the line of a source

@@ -1,7 +1,8 @@
 //! What a person is told of the form of another tool.
 
 use crate::notes::{tell_bytes, tell_made};
-use pylock_exports::{Exported, Format, FormatRefusal, explain_exported, explain_refusal};
+use pylock_command::PlanFormat;
+use pylock_exports::{Exported, FormatRefusal, explain_exported, explain_refusal};
 use pylock_run::Sink;
 use std::alloc::{AllocError, Global};
 
@@ -9,7 +10,7 @@ use std::alloc::{AllocError, Global};
 pub(crate) fn tell_exported<N: Sink>(
     alloc: Global,
     notes: &mut N,
-    form: Format,
+    form: PlanFormat,
     exported: &Exported,
 ) {
     match explain_exported(alloc, form, exported) {
@@ -23,7 +24,7 @@ pub(crate) fn tell_exported<N: Sink>(
 pub(crate) fn tell_refused_export<N: Sink>(
     alloc: Global,
     notes: &mut N,
-    form: Format,
+    form: PlanFormat,
     name: Option<&str>,
     refusal: &FormatRefusal,
 ) {

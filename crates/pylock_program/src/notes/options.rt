@@ -21,11 +21,6 @@ pub(crate) fn option_diagnostic(
     Ok(Some(Diagnostic::of_message(alloc, note.as_str())?))
 }
 
-/// Tells why an option is refused. `lock` is the path of the lock as it was given.
-pub(crate) fn tell_refused<N: Sink>(alloc: Global, notes: &mut N, lock: &str, choice: Choice<'_>) {
-    tell_made(alloc, notes, option_note(alloc, lock, choice));
-}
-
 fn option_note(alloc: Global, lock: &str, choice: Choice<'_>) -> Result<String, AllocError> {
     let (word, text) = option_words(choice);
     let text = text.unwrap_or("");

@@ -65,7 +65,7 @@ fn push_fate(
     ensures { OnOk result (out.new.items ≡ out.old.items ++ fate_text session.now.state fate.now) }
 {
     match session.entry(fate.0) {
-        Some(entry) => push_entry(alloc, out, session, fate.0, fate.1, entry),
+        Some(entry) => push_entry(alloc, out, session, *fate, entry),
         None => Ok(()),
     }
 }
@@ -74,29 +74,29 @@ fn push_entry(
     alloc: Global,
     out: &mut Vec<u8>,
     session: &Session,
-    number: u32,
-    fate: Fate,
+    fate: (u32, Fate),
     entry: &Entry,
 ) -> Result<(), AllocError>
     ensures { OnOk result (out.new.items
-        ≡ out.old.items ++ entry_line session.now.state number fate entry.now) }
+        ≡ out.old.items ++ entry_line session.now.state fate.0 fate.1 entry.now) }
 {
+    let (number, fate) = fate;
     let detail = detail(alloc, session, entry, fate)?;
     let verdict = verdict_word(entry, fate);
-    push_verdict(alloc, out, number, entry, verdict, detail.as_deref())
+    push_verdict(alloc, out, (number, entry), verdict, detail.as_deref())
 }
 
 fn push_verdict(
     alloc: Global,
     out: &mut Vec<u8>,
-    number: u32,
-    entry: &Entry,
+    numbered: (u32, &Entry),
     verdict: &str,
     detail: Option<&str>,
 ) -> Result<(), AllocError>
     ensures { OnOk result (out.new.items ≡ out.old.items
-        ++ verdict_line number entry.now verdict.now (option_copied detail.entry)) }
+        ++ verdict_line numbered.entry.0 numbered.entry.1.now verdict.now (option_copied detail.entry)) }
 {
+    let (number, entry) = numbered;
     let version = shown_version(alloc, entry)?;
     push_decimal(out, u64::from(number))?;
     push_next_field(out, Some(entry.name()))?;

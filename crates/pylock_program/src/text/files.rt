@@ -37,7 +37,7 @@ impl<'a> Model for SourceLine<'a> {
 
 /// Pushes `files K` and a line for each source of each entry. Takes memory for the lines and for a
 /// list of the sources.
-pub(crate) fn push_files(
+pub(crate) fn push_entries(
     alloc: Global,
     out: &mut Vec<u8>,
     entries: &[Entry],

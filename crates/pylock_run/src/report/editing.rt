@@ -6,7 +6,7 @@ ghost use Rattle.pylock_core.specs.Session.Steps.{answer};
 ghost use Rattle.std.specs.List.{position};
 ghost use Rattle.pytext.specs.Agreement.{Gives};
 ghost use Rattle.pylock_run.specs.Line.{is_lf};
-ghost use Rattle.pylock_run.specs.Report.{is_plan, after_line, current_answer_text};
+ghost use Rattle.pylock_run.specs.Report.{is_plan, after_line};
 ghost use Rattle.pylock_run.specs.Report.Run.{most_lines};
 ghost use Rattle.pylock_run.specs.Inner.Editing.{start, kept_part, end_line, end_text};
 ghost use Rattle.pylock_run.specs.Inner.Editing.{editing_after, bytes_text, after_input};
@@ -17,7 +17,7 @@ use crate::line::commands::Command;
 use crate::line::refusal::LineRefusal;
 use crate::line::{LINE_LIMIT, read_line};
 use crate::report::fault::RunFault;
-use crate::report::printing::{Lines, Printing};
+use crate::report::printing::Printing;
 use memchr::memchr;
 use pylock_core::{Answer, Session};
 use std::alloc::{AllocError, Global};
@@ -232,15 +232,6 @@ fn push_standing_answer<P: Printing>(
     let answer = session.answer()?;
     printing.push_answer(out, session, &answer)?;
     Ok(matches!(answer, Answer::Plan(_)))
-}
-
-/// Pushes the lines of the answer as it stands, and answers whether it is a plan.
-pub fn push_current_answer(session: &Session, out: &mut Vec<u8>) -> Result<bool, AllocError>
-    ensures plan { IfOk result (λ plan. plan ≡ is_plan (answer session.now.state)) }
-    ensures text { OnOk result
-        (out.new.items ≡ out.old.items ++ current_answer_text session.now.state) }
-{
-    push_standing_answer(&Lines, session, out)
 }
 
 /// Where the first LF stands.

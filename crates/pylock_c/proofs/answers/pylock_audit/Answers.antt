@@ -1,12 +1,11 @@
--- The form of the reply is that of the flag.
-use Rattle.std.proofs.Common.{rules, ap}
-use Rattle.pylock_program.specs.Reply.{reply}
-use Rattle.pylock_program.specs.declared.reply.queries.Query.TheVariants as query
+-- The form of what is printed is that of the flag.
+use Rattle.std.proofs.Common.{rules, ap, None}
+use Rattle.pylock_program.specs.Reply.{audit_report}
 use Rattle.pylock_c.specs.Answers.{reported}
 use Rattle.pylock_c.proofs.AnswerLemmas.{told_as}
 use Rattle.pylock_c.proofs.answers.pylock_audit.Goals as goal
 
 pub returns : goal.returns
 returns c =
-    told_as (ap (λ form. reported (reply (query.Audit c.args.lock form))) c.form_of.ensures) (Prim.search rules)
-    (c.keep_with.ensures (reported (reply (query.Audit c.args.lock c.form_of.result))) c.replied-told.ensures)
+    told_as (ap (λ form. reported (audit_report form None c.args.lock.now)) c.form_of.ensures) (Prim.search rules)
+    (c.keep_with.ensures (reported (audit_report c.form_of.result None c.args.lock.now)) c.audit-told.ensures)

@@ -1,6 +1,6 @@
 -- The form of the report is that of the flag.
-use Rattle.std.proofs.Common.{rules, ap, []}
-use Rattle.pylock_program.specs.Show.{report_after, view_shown}
+use Rattle.std.proofs.Common.{rules, ap}
+use Rattle.pylock_program.specs.Show.{opened_report}
 use Rattle.pylock_run.specs.Report.{open_state}
 use Rattle.pylock_command.specs.declared.task.View.TheVariants.{Explain}
 use Rattle.pylock_c.specs.Answers.{reported}
@@ -9,5 +9,5 @@ use Rattle.pylock_c.proofs.answers.pylock_explain.Goals as goal
 
 pub returns : goal.returns
 returns c =
-    told_as (ap (λ form. reported (report_after form (view_shown Explain form) (open_state c.args.lock.now c.args.environment.now) [])) c.form_of.ensures) (Prim.search rules)
-    (c.keep_with.ensures (reported (report_after c.form_of.result (view_shown Explain c.form_of.result) (open_state c.args.lock.now c.args.environment.now) [])) c.report-told.ensures)
+    told_as (ap (λ form. reported (opened_report Explain form (open_state c.args.lock.now c.args.environment.now))) c.form_of.ensures) (Prim.search rules)
+    (c.keep_with.ensures (reported (opened_report Explain c.form_of.result (open_state c.args.lock.now c.args.environment.now))) c.report-told.ensures)

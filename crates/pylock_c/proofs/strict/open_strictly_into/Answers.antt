@@ -1,8 +1,8 @@
 -- What is printed is left in the words.
 use Rattle.std.proofs.Common.{rules, subst, Result}
 use Rattle.pytext.specs.Agreement.{Gives}
-use Rattle.pylock_program.specs.declared.strict.Unopened.{Unopened as NotOpened}
-use Rattle.pylock_program.specs.declared.strict.Unopened.TheVariants as unopened
+use Rattle.pylock_program.specs.declared.opening.Unopened.{Unopened as NotOpened}
+use Rattle.pylock_program.specs.declared.opening.Unopened.TheVariants as unopened
 use Rattle.pylock_run.specs.declared.report.opening.OpenError.TheVariants as refusal
 use Rattle.pylock_c.specs.Slot.{object}
 use Rattle.pylock_c.specs.declared.object.Object.{Object as Kind}

@@ -4,7 +4,7 @@ use Rattle.pylock_core.specs.Session.Picks.{lent_source}
 use Rattle.pylock_exports.specs.Listed.{url_of}
 use Rattle.pylock_exports.specs.Lists.{value_of}
 use Rattle.pylock_exports.specs.Texts.{lines_text}
-use Rattle.pylock_exports.specs.declared.format.ListFormat.TheVariants.{Aria2}
+use Rattle.pylock_command.specs.declared.form.FileFormat.TheVariants.{Aria2}
 use Rattle.pylock_exports.proofs.TextLemmas.{six_lines}
 use Rattle.pylock_exports.proofs.lists.push_aria2.Goals as goal
 

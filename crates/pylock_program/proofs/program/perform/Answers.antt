@@ -1,25 +1,19 @@
 use Rattle.pylock_program.proofs.program.perform.Goals as goal
 
+pub returns-in-Show : goal.returns-in-Show
+returns-in-Show g c = rw c.in-Show.is c.answer_question.ensures
+
 pub returns-in-Select : goal.returns-in-Select
 returns-in-Select g c = rw c.in-Select.is c.run_select.ensures
-
-pub returns-in-Marker : goal.returns-in-Marker
-returns-in-Marker g c = rw c.in-Marker.is c.judge_marker.ensures
 
 pub returns-in-Files : goal.returns-in-Files
 returns-in-Files g c = rw c.in-Files.is c.list_files.ensures
 
-pub returns-in-Show : goal.returns-in-Show
-returns-in-Show g c = rw c.in-Show.is c.show_files.ensures
-
 pub returns-in-Audit : goal.returns-in-Audit
 returns-in-Audit g c = rw c.in-Audit.is c.audit_lock.ensures
 
-pub returns-in-ExportPlan : goal.returns-in-ExportPlan
-returns-in-ExportPlan g c = rw c.in-ExportPlan.is c.export_plan.ensures
-
-pub returns-in-ExportFiles : goal.returns-in-ExportFiles
-returns-in-ExportFiles g c = rw c.in-ExportFiles.is c.export_files.ensures
-
 pub returns-in-Diff : goal.returns-in-Diff
-returns-in-Diff g c = rw c.in-Diff.is c.compare_locks.ensures
+returns-in-Diff g c = rw c.in-Diff.is c.compare.ensures
+
+pub returns-in-Marker : goal.returns-in-Marker
+returns-in-Marker g c = rw c.in-Marker.is c.judge_marker.ensures

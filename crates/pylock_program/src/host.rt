@@ -1,0 +1,23 @@
+//! What surrounds a task.
+
+use pylock_run::{Files, Sink, Source};
+
+/// What a task reads and writes beside its words.
+#[derive(Drop)]
+pub struct Host<F, R, W, N> {
+    /// The files that it names.
+    pub files: F,
+    /// Standard input.
+    pub reader: R,
+    /// Both outputs.
+    pub outputs: Outputs<W, N>,
+}
+
+/// Where an answer is printed, and what a person is told besides.
+#[derive(Drop)]
+pub struct Outputs<W, N> {
+    /// Standard output.
+    pub writer: W,
+    /// Standard error. What can't be written there is left out.
+    pub notes: N,
+}

@@ -1,0 +1,362 @@
+//! What stands in the place of an answer: why there is none, and what a person is told of that.
+
+ghost use Rattle.std.specs.Prelude.{◌≡◌, ◌++◌, Err, OnOk, true};
+ghost use Rattle.std.specs.Option.{option_copied};
+ghost use Rattle.pylock_program.specs.Findings.{findings_shown};
+ghost use Rattle.pylock_program.specs.Refusal.{PrintsTelling, cause_status, cause_told};
+ghost use Rattle.pylock_program.specs.Refusal.{is_memory, option_told, out_of_memory};
+ghost use Rattle.pylock_program.specs.Refusal.{cause_report, refusal_report, silence};
+ghost use Rattle.pylock_program.specs.Refusal.{refusal_told, side_told, side_word, unopened_told};
+ghost use Rattle.pylock_program.specs.declared.refusal.Cause.TheVariants as cause;
+ghost use Rattle.pylock_program.specs.declared.opening.Unopened.TheVariants as unopened;
+ghost use Rattle.pylock_run.specs.Report.Print.{Prints};
+ghost use Rattle.pylock_run.specs.declared.report.fault.RunFault.TheVariants as fault;
+ghost use Rattle.pylock_run.specs.declared.report.opening.OpenError.TheVariants as open_error;
+
+use crate::choices::option_words;
+use crate::file::{FileBytes, Inputs, MachineInput};
+use crate::host::Outputs;
+use crate::notes::options::option_diagnostic;
+use crate::notes::refusal::{environment_told, unopened_told};
+use crate::notes::{tell, tell_bytes};
+use crate::opening::Unopened;
+use crate::text::audit::push_findings;
+use crate::text::json::{push_option_json, push_refusal_json, push_side_json};
+use pylock_audit::{LockFinding, findings_document};
+use pylock_command::{Choice, Form};
+use pylock_core::{EnvError, LockError};
+use pylock_documents::push_document;
+use pylock_messages::{Diagnostic, lock_diagnostic};
+use pylock_run::{
+    OpenError, RunFault, Sink, print, push_next_field, push_refusal, push_side_error,
+};
+use std::alloc::{AllocError, Global};
+
+/// The status where an option is refused.
+const REFUSED_OPTION: u8 = 1;
+
+/// The status where the lock or the environment is refused.
+pub(crate) const REFUSED: u8 = 2;
+
+/// One of two locks that are compared.
+#[derive(Clone, Copy)]
+pub(crate) enum Side {
+    /// The first.
+    Old,
+    /// The second.
+    New,
+}
+
+impl Side {
+    fn word(self) -> &'static str
+        ensures { result.now ≡ side_word self }
+    {
+        match self {
+            Side::Old => "old",
+            Side::New => "new",
+        }
+    }
+}
+
+/// Why there is no answer.
+#[derive(Drop)]
+pub(crate) enum Cause<'a> {
+    /// There is no session: the lock or the environment is refused, or findings are.
+    Unopened(Unopened),
+    /// One of two locks is refused.
+    Side(Side, LockError),
+    /// An option is refused.
+    Option(Choice<'a>),
+}
+
+impl Cause<'_> {
+    fn is_memory(&self) -> bool
+        ensures { result ≡ is_memory self.now }
+    {
+        match self {
+            Cause::Unopened(Unopened::Refused(OpenError::Memory)) => true,
+            _ => false,
+        }
+    }
+
+    fn status(&self) -> u8
+        ensures { result ≡ cause_status self.now }
+    {
+        match self {
+            Cause::Option(_) => REFUSED_OPTION,
+            _ => REFUSED,
+        }
+    }
+}
+
+/// Why there is no answer, and what a person is told of it, unless memory was refused for that.
+#[derive(Drop)]
+pub(crate) struct Refusal<'a> {
+    pub(crate) cause: Cause<'a>,
+    told: Result<Option<Diagnostic>, AllocError>,
+}
+
+impl<'a> From<AllocError> for Refusal<'a> {
+    ghost use Rattle.pylock_program.specs.Refusal.{out_of_memory};
+
+    ghost from_gives = { λ _ refusal. refusal.cause ≡ out_of_memory };
+
+    fn from(_refused: AllocError) -> Refusal<'a> {
+        Refusal::of_memory()
+    }
+}
+
+impl<'a> Refusal<'a> {
+    /// Memory ran out, which is no refusal and is never printed.
+    pub(crate) fn of_memory() -> Refusal<'a>
+        ensures { result.cause ≡ out_of_memory }
+    {
+        let cause = Cause::Unopened(Unopened::Refused(OpenError::Memory));
+        Refusal {
+            cause,
+            told: Ok(None),
+        }
+    }
+
+    /// There is no session on what was read.
+    pub(crate) fn of_unopened(alloc: Global, unopened: Unopened, inputs: Inputs<'_>) -> Refusal<'a>
+        ensures { result.cause ≡ cause.Unopened unopened }
+    {
+        let told = unopened_told(alloc, &unopened, inputs);
+        let cause = Cause::Unopened(unopened);
+        Refusal { cause, told }
+    }
+
+    /// A lock that stands alone is refused.
+    pub(crate) fn of_lock(alloc: Global, error: LockError, file: &FileBytes<'_>) -> Refusal<'a>
+        ensures { result.cause ≡ cause.Unopened (unopened.Refused (open_error.Lock error)) }
+    {
+        let told = lock_diagnostic(alloc, file.path, &file.bytes, &error);
+        let cause = Cause::Unopened(Unopened::Refused(OpenError::Lock(error)));
+        Refusal { cause, told }
+    }
+
+    /// An environment that stands alone is refused.
+    pub(crate) fn of_environment(
+        alloc: Global,
+        error: EnvError,
+        machine: &MachineInput<'_>,
+    ) -> Refusal<'a>
+        ensures { result.cause
+            ≡ cause.Unopened (unopened.Refused (open_error.Environment error)) }
+    {
+        let told = environment_told(alloc, &error, machine);
+        let cause = Cause::Unopened(Unopened::Refused(OpenError::Environment(error)));
+        Refusal { cause, told }
+    }
+
+    /// One of two locks is refused.
+    pub(crate) fn of_side(
+        alloc: Global,
+        side: Side,
+        error: LockError,
+        file: &FileBytes<'_>,
+    ) -> Refusal<'a>
+        ensures { result.cause ≡ cause.Side side error }
+    {
+        let told = lock_diagnostic(alloc, file.path, &file.bytes, &error);
+        let cause = Cause::Side(side, error);
+        Refusal { cause, told }
+    }
+
+    /// An option is refused. `path` is that of the lock.
+    pub(crate) fn of_option(alloc: Global, choice: Choice<'a>, path: &str) -> Refusal<'a>
+        ensures { result.cause ≡ cause.Option choice.entry }
+    {
+        let told = option_diagnostic(alloc, path, choice);
+        let cause = Cause::Option(choice);
+        Refusal { cause, told }
+    }
+}
+
+/// Writes a refusal in a form, and answers its status; a person is told the line on it. Without a
+/// form nothing is written, and a person is told the lines of it too.
+#[tactic(auto, using(crate::proofs::OpeningLemmas::refusals))]
+pub(crate) fn write_refusal<W: Sink, N: Sink>(
+    alloc: Global,
+    form: Option<Form>,
+    refusal: Refusal<'_>,
+    outputs: &mut Outputs<W, N>,
+) -> Result<u8, RunFault>
+    ensures printed { PrintsTelling (λ told. refusal_report form told refusal.entry.cause)
+        (W.value outputs.old.writer) (W.value outputs.new.writer) result }
+    ensures memory { is_memory refusal.entry.cause ≡ true → (result ≡ Err fault.Memory)
+        × (W.value outputs.new.writer ≡ W.value outputs.old.writer) }
+{
+    let Refusal { cause, told } = refusal;
+    if cause.is_memory() {
+        return Err(RunFault::Memory);
+    }
+    match form {
+        Some(form) => write_cause(alloc, form, &cause, told, outputs),
+        None => tell_cause(alloc, &cause, told, outputs),
+    }
+}
+
+/// Writes a refusal in its form.
+fn write_cause<W: Sink, N: Sink>(
+    alloc: Global,
+    form: Form,
+    cause: &Cause<'_>,
+    told: Result<Option<Diagnostic>, AllocError>,
+    outputs: &mut Outputs<W, N>,
+) -> Result<u8, RunFault>
+    ensures { PrintsTelling (λ told. cause_report form told cause.now)
+        (W.value outputs.old.writer) (W.value outputs.new.writer) result }
+{
+    let told = told_in(form, told)?;
+    let mut out = Vec::new(alloc);
+    push_cause(alloc, &mut out, form, cause, told.as_ref())?;
+    let end = print(&out, cause.status(), &mut outputs.writer);
+    if let (Ok(_), Some(told)) = (end, told) {
+        tell(alloc, &mut outputs.notes, told.message());
+    }
+    end
+}
+
+/// What is told in this form: lines are printed also where memory ran out for what a person would
+/// be told beside them, while of a document it is a part.
+fn told_in(
+    form: Form,
+    told: Result<Option<Diagnostic>, AllocError>,
+) -> Result<Option<Diagnostic>, AllocError> {
+    match (form, told) {
+        (Form::Lines, Err(_)) => Ok(None),
+        (_, told) => told,
+    }
+}
+
+/// Tells the lines of a refusal, and writes nothing.
+fn tell_cause<W: Sink, N: Sink>(
+    alloc: Global,
+    cause: &Cause<'_>,
+    told: Result<Option<Diagnostic>, AllocError>,
+    outputs: &mut Outputs<W, N>,
+) -> Result<u8, RunFault>
+    ensures { Prints (silence (cause_status cause.now))
+        (W.value outputs.old.writer) (W.value outputs.new.writer) result }
+{
+    let mut lines = Vec::new(alloc);
+    push_cause(alloc, &mut lines, Form::Lines, cause, None)?;
+    tell_bytes(&mut outputs.notes, &lines);
+    if let Ok(Some(told)) = told {
+        tell(alloc, &mut outputs.notes, told.message());
+    }
+    print(&[], cause.status(), &mut outputs.writer)
+}
+
+/// Pushes what is printed of a refusal, in whose document is what is told of it.
+fn push_cause(
+    alloc: Global,
+    out: &mut Vec<u8>,
+    form: Form,
+    cause: &Cause<'_>,
+    told: Option<&Diagnostic>,
+) -> Result<(), AllocError>
+    ensures { OnOk result (out.new.items
+        ≡ out.old.items ++ cause_told form (option_copied told.entry) cause.now) }
+{
+    match cause {
+        Cause::Unopened(unopened) => push_unopened(alloc, out, form, unopened, told),
+        Cause::Side(side, error) => push_side(alloc, out, (form, *side), error, told),
+        Cause::Option(choice) => push_option(alloc, out, form, *choice, told),
+    }
+}
+
+/// Pushes what is printed in place of an answer where there is no session: the findings as `audit`
+/// prints them, or the refusal of the lock or the environment. `told` is what a document has beside
+/// the words of a refusal. It takes memory for a document.
+pub fn push_unopened(
+    alloc: Global,
+    out: &mut Vec<u8>,
+    form: Form,
+    unopened: &Unopened,
+    told: Option<&Diagnostic>,
+) -> Result<(), AllocError>
+    ensures { OnOk result (out.new.items
+        ≡ out.old.items ++ unopened_told form (option_copied told.entry) unopened.now) }
+{
+    match unopened {
+        Unopened::Findings(found) => push_found(alloc, out, form, found.as_slice()),
+        Unopened::Refused(refusal) => push_open_error(alloc, out, form, refusal, told),
+    }
+}
+
+/// Pushes findings: their number and a line for each, or a document.
+pub(crate) fn push_found(
+    alloc: Global,
+    out: &mut Vec<u8>,
+    form: Form,
+    found: &[LockFinding],
+) -> Result<(), AllocError>
+    ensures { OnOk result (out.new.items ≡ out.old.items ++ findings_shown form found.now) }
+{
+    match form {
+        Form::Lines => push_findings(out, found),
+        Form::Json => push_document(alloc, out, findings_document(alloc, found)?),
+    }
+}
+
+/// Pushes what is printed of a refused lock or environment: its line, or the JSON document of the
+/// line's words and of what is told beside them, each with an LF at its end. It takes memory for
+/// the document.
+pub fn push_open_error(
+    alloc: Global,
+    out: &mut Vec<u8>,
+    form: Form,
+    refusal: &OpenError,
+    told: Option<&Diagnostic>,
+) -> Result<(), AllocError>
+    ensures { OnOk result (out.new.items
+        ≡ out.old.items ++ refusal_told form (option_copied told.entry) refusal.now) }
+{
+    match form {
+        Form::Lines => push_refusal(out, refusal),
+        Form::Json => push_refusal_json(alloc, out, refusal, told),
+    }
+}
+
+/// Pushes a refused lock, behind the word for which of two it is.
+fn push_side(
+    alloc: Global,
+    out: &mut Vec<u8>,
+    shown: (Form, Side),
+    error: &LockError,
+    told: Option<&Diagnostic>,
+) -> Result<(), AllocError>
+    ensures { OnOk result (out.new.items ≡ out.old.items
+        ++ side_told shown.0 (option_copied told.entry) shown.1 error.now) }
+{
+    let (form, side) = shown;
+    match form {
+        Form::Lines => push_side_error(out, side.word(), error),
+        Form::Json => push_side_json(alloc, out, side.word(), error, told),
+    }
+}
+
+/// Pushes a refused option: its line, or the document of the line's words.
+fn push_option(
+    alloc: Global,
+    out: &mut Vec<u8>,
+    form: Form,
+    choice: Choice<'_>,
+    told: Option<&Diagnostic>,
+) -> Result<(), AllocError>
+    ensures { OnOk result (out.new.items
+        ≡ out.old.items ++ option_told form (option_copied told.entry) choice.entry) }
+{
+    if matches!(form, Form::Json) {
+        return push_option_json(alloc, out, choice, told);
+    }
+    let (word, text) = option_words(choice);
+    out.extend_from_slice(b"refused\t")?;
+    out.extend_from_slice(word.as_bytes())?;
+    push_next_field(out, text)?;
+    out.push(b'\n')?;
+    Ok(())
+}
