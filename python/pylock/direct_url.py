@@ -60,7 +60,7 @@ class DirectUrlValidationError(Exception):
 
 def _made(cause: Union[str, Exception], message: str, context: str) -> DirectUrlValidationError:
     """An error as its constructor makes it of a cause, in less time."""
-    error = DirectUrlValidationError.__new__(DirectUrlValidationError, cause)
+    error = DirectUrlValidationError.__new__(DirectUrlValidationError, cause)  # type: ignore[call-arg]
     error.message = message
     error.context = context
     return error
