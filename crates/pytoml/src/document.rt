@@ -42,15 +42,6 @@ pub(crate) trait Lines {
         ensures { Defines stands self.old self.new result (key_view key, array_table) };
 }
 
-/// The table that the text is, where the short way knows its shape.
-pub(crate) fn document(alloc: Global, s: &str) -> Result<Table, Unread>
-    ensures { IfOk result (λ table. parse_document s.now ≡ Some (table_view table)) }
-{
-    let mut draft = Draft::new(alloc);
-    add_lines(alloc, s, &mut draft)?;
-    draft.finish()
-}
-
 /// The table that the text is without the elements that are handed out, and who took those; where
 /// the short way knows its shape.
 pub(crate) fn document_without<E: Elements>(

@@ -37,27 +37,12 @@ mod outline;
 mod text;
 mod value;
 
-use document::{document, document_without, whole_value};
+use document::{document_without, whole_value};
 pub use fault::TomlError;
 use fault::Unread;
 pub use outline::Elements;
 use std::alloc::{AllocError, Global};
 use toml::{Table, Value};
-
-/// The table that a document of TOML 1.1 is.
-///
-/// Takes memory for the table alone, but where the text is of a shape that the short way doesn't
-/// know: then also what `toml` takes.
-pub fn read_table(alloc: Global, text: &str) -> Result<Table, TomlError>
-    ensures ok { IfOk result (λ table. parse_document text.now ≡ Some (table_view table)) }
-    ensures syntax { result ≡ Err fault.Syntax → parse_document text.now ≡ None }
-{
-    match document(alloc, text) {
-        Ok(table) => Ok(table),
-        Err(Unread::Memory) => Err(TomlError::Memory),
-        Err(Unread::Shape) => read_table_by_toml(alloc, text),
-    }
-}
 
 /// The table that a document of TOML 1.1 is without the elements of one array of tables, at the key
 /// of `elements`, to which they are handed in their order, each as soon as it is complete: so one

@@ -93,8 +93,8 @@ fn push_verdict(
     verdict: &str,
     detail: Option<&str>,
 ) -> Result<(), AllocError>
-    ensures { OnOk result (out.new.items ≡ out.old.items
-        ++ verdict_line numbered.entry.0 numbered.entry.1.now verdict.now (option_copied detail.entry)) }
+    ensures { OnOk result (out.new.items ≡ out.old.items ++ verdict_line
+        numbered.entry.0 numbered.entry.1.now verdict.now (option_copied detail.entry)) }
 {
     let (number, entry) = numbered;
     let version = shown_version(alloc, entry)?;
