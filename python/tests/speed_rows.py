@@ -405,16 +405,27 @@ def is_with_making(name):
 
 
 # rows in which no library can be ahead, as Python itself takes the time, and why: what a row's name begins with, and the
-# reason. A profile or a comparison of instructions is behind each reason (docs/PYTHON.md). `test_speed` says which forms no row
-# has, and whether what is read is a plain attribute.
+# reason, with what shows it. `test_speed` says which forms no row has, and whether what is read is a plain attribute.
+# each is one read, of 8 to 50 ns
 READ = "an attribute is read, which lies in the object on both sides"
+# of 2.2 µs for `dumps` of a specifier its `__reduce_ex__` takes 0.1
 PICKLE = "`pickle` looks for the class and works through its opcodes"
+# the same lines run on both sides; compiled, `==` and `hash` took 0.7 to 1.3 of the speed, as the limited API reads an
+# attribute slower than the interpreter does
 DATACLASS = "Python reads and compares the fields, in what `dataclasses` generates or by its loop over them"
+# a class with the same attributes alone takes, in ns, for `DependencyGroupInclude` 210 where both take 212; for
+# `CyclicDependencyGroup` 696 of 869 and 914; for `InvalidMetadata` 524 of 522; for `PylockValidationError` 350 of 429 and 546;
+# `Exception` itself 130 where `PylockSelectError` takes 146 and 148
 CONSTRUCTOR = "the constructor of a class of Python, which sets its attributes"
+# a method of these alone takes 187 ns of 316 and 353
 REPLACED = "a method in Python that is `str.replace` and a tuple"
+# `list(iter(..))` alone takes 0.40 µs of 0.49 and 0.61
 LISTED = "`list` takes the items of the list's own iterator, which is handed on as it is"
+# `cProfile`: 60 to 73 % are in `email`, and most of the rest in what it calls
 EMAIL = "`email` of the standard library"
+# they may be changed at any time, so nothing is kept
 RUNNING = "`sys` and `sysconfig` are read"
+# the rest is three comparisons
 PATHLIB = "`pathlib` finds the last part of the path"
 _RECORDS = r"of a \w+ (DirectUrl|ArchiveInfo|DirInfo|VcsInfo|Package\w+)\("
 _OF_LOCK = r"of a \w+ Pylock\.from_dict"
