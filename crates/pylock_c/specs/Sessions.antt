@@ -6,8 +6,8 @@ use Rattle.pytext.specs.Results.{◌>>=◌}
 use Rattle.pylock_command.specs.declared.form.Form.{Form}
 use Rattle.pylock_core.specs.Session.Judgement.{Marked, SessionValue, all_numbers, index_of}
 use Rattle.pylock_core.specs.Session.Judgement.{readers, touched, verdicts_of}
-use Rattle.pylock_core.specs.Session.Names.{after_names, names_key}
-use Rattle.pylock_core.specs.Session.State.{State}
+use Rattle.pylock_core.specs.Session.Names.{names_key}
+use Rattle.pylock_core.specs.Session.State.{State, after_names}
 use Rattle.pylock_core.specs.Session.Steps.{answer}
 use Rattle.pylock_core.specs.declared.answer.Answer.{Answer}
 use Rattle.pylock_core.specs.declared.answer.Answer.TheVariants as answers

@@ -5,7 +5,7 @@ ghost use Rattle.pytext.specs.Agreement.{Gives};
 ghost use Rattle.pylock_run.specs.declared.line.refusal.LineRefusal.TheVariants as line;
 ghost use Rattle.pylock_c.specs.Sessions.{session_after, session_after_names};
 
-use pylock_core::{NameChange, Session};
+use pylock_core::{Edit, NameChange, Session};
 use pylock_run::{Command, LineRefusal};
 use pyver_core::NormalName;
 use std::alloc::{AllocError, Global};
@@ -73,6 +73,6 @@ impl KeptSession {
             (session_after_names change self.old names.items) }
         ensures err { OnErr result (self.new ≡ self.old) }
     {
-        Ok(self.session.edit_names(change, names)?)
+        Ok(self.session.edit(Edit::Names(change, names))?)
     }
 }

@@ -1,13 +1,13 @@
 -- The changes of several names, made as one edit, are the edits of these names.
 use Rattle.std.proofs.Common.{◌≡◌, ◌++◌, ℕ, List, [], ◌∷◌, Result, Ok, Err, ap, refl, map}
 use Rattle.pytext.specs.Results.{◌>>=◌}
-use Rattle.pylock_core.specs.Session.Names.{after_names, name_change}
-use Rattle.pylock_core.specs.Session.State.{State, apply}
+use Rattle.pylock_core.specs.Session.Names.{name_change}
+use Rattle.pylock_core.specs.Session.State.{State, after_edits, after_names, apply}
 use Rattle.pylock_core.specs.declared.edit.Edit.TheVariants as edit
 use Rattle.pylock_core.specs.declared.edit.EditError.{EditError}
 use Rattle.pylock_core.specs.declared.edit.NameChange.{NameChange}
 use Rattle.pyver_core.specs.Name.{normal_name}
-use Rattle.pylock_program.specs.Choices.{after_edits, name_edit}
+use Rattle.pylock_program.specs.Choices.{name_edit}
 use Rattle.pylock_program.specs.declared.choices.NameEdit.TheVariants.{Change}
 
 then_same : (f g : State → Result State EditError) (next : Result State EditError) → ((state : State) → f state ≡ g state) → (next >>= f) ≡ (next >>= g)

@@ -7,9 +7,8 @@ ghost use Rattle.std.specs.Result.{result_ok};
 ghost use Rattle.pywheel_core.specs.Texts.{cut_at};
 ghost use Rattle.pylock_command.specs.Choices.{option_words};
 ghost use Rattle.pyver_core.specs.Name.{normal_name};
-ghost use Rattle.pylock_core.specs.Session.Names.{after_names};
-ghost use Rattle.pylock_core.specs.Session.State.{apply};
-ghost use Rattle.pylock_program.specs.Choices.{after_choice, after_choices, after_edits};
+ghost use Rattle.pylock_core.specs.Session.State.{after_edits, after_names, apply};
+ghost use Rattle.pylock_program.specs.Choices.{after_choice, after_choices};
 ghost use Rattle.pylock_program.specs.Choices.{edit_of_name, edits_of, name_edit, policies};
 ghost use Rattle.pylock_program.specs.Choices.{set_variable};
 ghost use Rattle.pylock_program.specs.declared.choices.NameEdit.TheVariants as name_edits;
@@ -63,7 +62,7 @@ fn make_names(
     ensures { IfOk result (λ is_made. result_ok (after_names change names.items session.old.state)
         ≡ state_if is_made session.new.state) }
 {
-    match session.edit_names(change, names) {
+    match session.edit(Edit::Names(change, names)) {
         Ok(_) => Ok(true),
         Err(EditError::Memory) => Err(AllocError),
         Err(_) => Ok(false),

@@ -17,6 +17,7 @@ use Rattle.pylock_readers.specs.Entry.{EntryValue}
 use Rattle.pylock_readers.specs.Lock.{HeadValue}
 use Rattle.pylock_core.specs.declared.edit.Edit.{Edit}
 use Rattle.pylock_core.specs.declared.edit.Edit.TheVariants as edit
+use Rattle.pylock_core.specs.Session.Names.{names_key}
 use Rattle.pylock_core.specs.Session.State.{State, policy_of}
 use Rattle.pylock_core.specs.Session.Steps.{standing, best_wheel, head_fault}
 use Rattle.pylock_readers.specs.Entry.Kinds.{is_any}
@@ -117,6 +118,7 @@ index_of state = map (λ key. readers key state) keys
 -- the numbers of what is judged again after an edit, in increasing order
 abbrev pub touched : Edit → State → List ℕ
 touched (edit.Environment change) state = readers (Marked (changed_key change)) state
+touched (edit.Names change names) state = readers (Marked (names_key change)) state
 touched (edit.Tags tags) state = readers OfTags state
 touched (edit.Add entry) state = (state.last + 1) ∷ []
 touched (edit.Put n entry) state = n ∷ []

@@ -18,6 +18,7 @@ use Rattle.pymark_core.specs.Change.{changed_key}
 use Rattle.pylock_core.specs.Inner.Tables.Rows.{passes}
 use Rattle.pylock_core.specs.declared.edit.Edit.{Edit}
 use Rattle.pylock_core.specs.declared.edit.Edit.TheVariants as edit
+use Rattle.pylock_core.specs.Session.Names.{names_key}
 
 -- ---- one list
 
@@ -319,6 +320,7 @@ readers_rise key state rise = head_rises (head_reads key state.head) (numbers_wh
 
 pub touched_rises : (edit : Edit) (state : State) → NumbersRise state → Rises 0 (touched edit state)
 touched_rises (edit.Environment change) state rise = readers_rise (Marked (changed_key change)) state rise
+touched_rises (edit.Names change names) state rise = readers_rise (Marked (names_key change)) state rise
 touched_rises (edit.Tags tags) state rise = readers_rise OfTags state rise
 touched_rises (edit.Add entry) state rise = (omega arith, tt)
 touched_rises (edit.Put n entry) state rise = (omega arith, tt)

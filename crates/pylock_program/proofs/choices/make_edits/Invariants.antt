@@ -1,5 +1,5 @@
 use Rattle.std.proofs.Common.{◌≡◌}
-use Rattle.pylock_program.specs.Choices.{after_edits}
+use Rattle.pylock_core.specs.Session.State.{after_edits}
 use Rattle.pylock_program.proofs.choices.make_edits.Given as goal
 
 -- the edits that are left lead on from the state so far
