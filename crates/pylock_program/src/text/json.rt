@@ -1,12 +1,13 @@
 //! What is printed in place of an answer, as JSON documents.
 
-ghost use Rattle.std.specs.Prelude.{◌≡◌, ◌++◌, ◌∷◌, [], OnOk, map};
+ghost use Rattle.std.specs.Prelude.{◌≡◌, ◌++◌, ◌∷◌, [], IfOk, OnOk, decimal, map, option_map};
+ghost use Rattle.std.specs.Prelude.{option_to_list, string_bytes};
 ghost use Rattle.std.specs.Option.{option_copied};
 ghost use Rattle.pylock_program.specs.Text.Json.{environment_json, fault_json, lock_json};
 ghost use Rattle.pylock_program.specs.Text.Json.{line_refusal_json};
 ghost use Rattle.pylock_program.specs.Text.Json.{option_json, refusal_json, side_json};
 ghost use Rattle.pylock_program.specs.Text.Json.{words_json};
-ghost use Rattle.pylock_run.specs.Text.Refusal.{lock_words};
+ghost use Rattle.pylock_run.specs.Text.Refusal.{refusal_words};
 
 use crate::choices::option_words;
 use pylock_command::Choice;
@@ -14,7 +15,7 @@ use pylock_core::{EnvError, LockError};
 use pylock_documents::{push_document, refused_document, refused_line_document};
 use pylock_json::Object;
 use pylock_messages::Diagnostic;
-use pylock_run::{LineRefusal, OpenError, entry_word, head_word, line_word};
+use pylock_run::{LineRefusal, OpenError, RefusalWords, environment_words, line_word, lock_words};
 use std::alloc::{AllocError, Global};
 
 /// Pushes the document of a refusal, of these words and what is told.
@@ -41,7 +42,7 @@ fn push_lock_json(
     ensures { OnOk result (out.new.items
         ≡ out.old.items ++ lock_json error.now (option_copied told.entry)) }
 {
-    push_lock_words(alloc, out, &["lock"], error, told)
+    push_words(alloc, out, &["lock"], lock_words(error), told)
 }
 
 /// Pushes the document of a refused lock that is one of two: `side` tells which it is.
@@ -55,59 +56,7 @@ pub(crate) fn push_side_json(
     ensures { OnOk result (out.new.items ≡ out.old.items
         ++ side_json side.now error.now (option_copied told.entry)) }
 {
-    push_lock_words(alloc, out, &["lock", side], error, told)
-}
-
-/// Pushes the document of a refused lock, whose words stand behind these.
-fn push_lock_words(
-    alloc: Global,
-    out: &mut Vec<u8>,
-    front: &[&str],
-    error: &LockError,
-    told: Option<&Diagnostic>,
-) -> Result<(), AllocError>
-    ensures { OnOk result (out.new.items ≡ out.old.items
-        ++ words_json (map (λ word. word.now) front.now ++ lock_words error.now)
-        (option_copied told.entry)) }
-{
-    match error {
-        LockError::NotText => push_both(alloc, out, front, &["not-text"], told),
-        LockError::Toml => push_both(alloc, out, front, &["toml"], told),
-        LockError::LockVersion => push_both(alloc, out, front, &["lock-version"], told),
-        LockError::CreatedBy => push_both(alloc, out, front, &["created-by"], told),
-        LockError::Head(key) => push_both(alloc, out, front, &["head", head_word(key)], told),
-        LockError::Packages => push_both(alloc, out, front, &["packages"], told),
-        LockError::TooMany => push_both(alloc, out, front, &["too-many"], told),
-        LockError::Entry(position, error) => {
-            let position = format!(in alloc; "{position}")?;
-            push_both(
-                alloc,
-                out,
-                front,
-                &["entry", position.as_str(), entry_word(error)],
-                told,
-            )
-        }
-        LockError::Memory => push_both(alloc, out, front, &["memory"], told),
-    }
-}
-
-/// Pushes the document of a refusal, of words in two parts.
-fn push_both(
-    alloc: Global,
-    out: &mut Vec<u8>,
-    front: &[&str],
-    words: &[&str],
-    told: Option<&Diagnostic>,
-) -> Result<(), AllocError>
-    ensures { OnOk result (out.new.items ≡ out.old.items
-        ++ words_json (map (λ word. word.now) front.now ++ map (λ word. word.now) words.now)
-        (option_copied told.entry)) }
-{
-    let mut all = Vec::with_capacity(alloc, front.len() + words.len())?;
-    all.extend_from_slice(front)?;
-    all.extend_from_slice(words)?;
-    push_refused(alloc, out, &all, told)
+    push_words(alloc, out, &["lock", side], lock_words(error), told)
 }
 
 /// Pushes the document of a refused environment.
@@ -120,17 +69,48 @@ fn push_environment_json(
     ensures { OnOk result (out.new.items
         ≡ out.old.items ++ environment_json error.now (option_copied told.entry)) }
 {
-    match error {
-        EnvError::Json => push_refused(alloc, out, &["environment", "json"], told),
-        EnvError::Shape => push_refused(alloc, out, &["environment", "shape"], told),
-        EnvError::Tag(position) => {
-            let position = format!(in alloc; "{position}")?;
-            push_refused(alloc, out, &["environment", "tag", position.as_str()], told)
-        }
-        EnvError::Python => push_refused(alloc, out, &["environment", "python"], told),
-        EnvError::Platform => push_refused(alloc, out, &["environment", "platform"], told),
-        EnvError::Memory => push_refused(alloc, out, &["environment", "memory"], told),
+    push_words(alloc, out, &["environment"], environment_words(error), told)
+}
+
+/// Pushes the document of a refusal whose words stand behind these.
+fn push_words(
+    alloc: Global,
+    out: &mut Vec<u8>,
+    front: &[&str],
+    words: RefusalWords,
+    told: Option<&Diagnostic>,
+) -> Result<(), AllocError>
+    ensures { OnOk result (out.new.items ≡ out.old.items
+        ++ words_json (map (λ word. word.now) front.now ++ refusal_words words)
+        (option_copied told.entry)) }
+{
+    let number = number_text(alloc, words.number)?;
+    let mut all = Vec::with_capacity(alloc, front.len() + 3)?;
+    all.extend_from_slice(front)?;
+    all.push(words.word)?;
+    push_maybe(&mut all, number.as_deref())?;
+    push_maybe(&mut all, words.detail)?;
+    push_refused(alloc, out, &all, told)
+}
+
+fn number_text(alloc: Global, number: Option<u64>) -> Result<Option<String>, AllocError>
+    ensures { IfOk result (λ text. option_map string_bytes text ≡ option_map decimal number) }
+{
+    match number {
+        Some(number) => Ok(Some(format!(in alloc; "{number}")?)),
+        None => Ok(None),
     }
+}
+
+/// Pushes the word, where there is one.
+fn push_maybe<'a>(words: &mut Vec<&'a str>, word: Option<&'a str>) -> Result<(), AllocError>
+    ensures { OnOk result (map (λ word. word.now) words.new.items
+        ≡ map (λ word. word.now) words.old.items ++ option_to_list (option_copied word.entry)) }
+{
+    if let Some(word) = word {
+        words.push(word)?;
+    }
+    Ok(())
 }
 
 /// Pushes the document of a refused lock or environment. Want of memory prints nothing.
