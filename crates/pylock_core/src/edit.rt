@@ -29,6 +29,9 @@ pub enum Edit {
     Del(u32),
     /// Gives the name the policy.
     Policy(NormalName, Policy),
+    /// Gives each of these names the policy. The entries of a name are judged once, however often
+    /// it is among them.
+    Policies(Vec<NormalName>, Policy),
 }
 
 /// What becomes of a name among the extras or the groups that are asked for.

@@ -1,2 +1,3 @@
 -- The edits of a session.
 pub mod Entries
+pub mod Policies

@@ -18,7 +18,7 @@ use Rattle.pylock_readers.specs.Lock.{HeadValue}
 use Rattle.pylock_core.specs.declared.edit.Edit.{Edit}
 use Rattle.pylock_core.specs.declared.edit.Edit.TheVariants as edit
 use Rattle.pylock_core.specs.Session.Names.{names_key}
-use Rattle.pylock_core.specs.Session.State.{State, policy_of}
+use Rattle.pylock_core.specs.Session.State.{State, is_among, policy_of}
 use Rattle.pylock_core.specs.Session.Steps.{standing, best_wheel, head_fault}
 use Rattle.pylock_readers.specs.Entry.Kinds.{is_any}
 use Rattle.pylock_core.specs.declared.answer.FaultCode.{FaultCode}
@@ -125,6 +125,8 @@ touched (edit.Put n entry) state = n ∷ []
 touched (edit.Del n) state = []
 touched (edit.Policy name policy) state =
     numbers_where (λ entry. bytes_eq name entry.name) state.entries
+touched (edit.Policies names policy) state =
+    numbers_where (λ entry. is_among names.items entry.name) state.entries
 
 -- the numbers that the start judges: the head and every entry
 abbrev pub all_numbers : State → List ℕ

@@ -105,6 +105,12 @@ with_policy policies name Any = map_of.remove policies name
 with_policy policies name Wheel = map_of.insert policies name Wheel
 with_policy policies name Source = map_of.insert policies name Source
 
+-- the policies where each of these names, in normal form, has this one
+abbrev pub with_policies : Policies → List (List ℕ) → Policy → Policies
+with_policies policies [] policy = policies
+with_policies policies (name ∷ names) policy =
+    with_policies (with_policy policies name policy) names policy
+
 -- the state with this environment
 abbrev pub in_environment : EnvironmentValue → State → State
 in_environment environment state = record state { environment = environment }
@@ -166,6 +172,8 @@ apply (edit.Put n entry) state =
 apply (edit.Del n) state = if_entry n state (record state { entries = without n state.entries })
 apply (edit.Policy name policy) state =
     Ok (record state { policies = with_policy state.policies name policy })
+apply (edit.Policies names policy) state =
+    Ok (record state { policies = with_policies state.policies names.items policy })
 
 -- the state after edits, one after another, or the first refusal
 abbrev pub after_edits : List Edit → State → Result State EditError

@@ -10,7 +10,7 @@ ghost use Rattle.pylock_core.specs.Session.State.{first};
 use crate::edit::{Edit, EditError};
 use crate::session::editing::entries::{add_entry, append_entry, delete_entry, put_entry};
 use crate::session::editing::environment::{edit_environment, edit_names};
-use crate::session::editing::policies::give_policy;
+use crate::session::editing::policies::{give_policies, give_policy};
 use crate::session::editing::tags::set_tags;
 use crate::session::parts::Parts;
 use pylock_readers::Lock;
@@ -122,5 +122,6 @@ fn make_edit(parts: &mut Parts, edit: Edit, judged: &mut Judged) -> Result<(), E
         Edit::Put(number, entry) => put_entry(parts, number, entry, judged),
         Edit::Del(number) => delete_entry(parts, number),
         Edit::Policy(name, policy) => give_policy(parts, name, policy, judged),
+        Edit::Policies(names, policy) => give_policies(parts, names, policy, judged),
     }
 }

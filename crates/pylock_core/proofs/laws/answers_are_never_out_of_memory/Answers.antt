@@ -36,6 +36,7 @@ edit_wants_none (edit.Add entry) state = tested _ _ TooMany (λ e. cc e)
 edit_wants_none (edit.Put n entry) state = tested _ _ NoEntry (λ e. cc e)
 edit_wants_none (edit.Del n) state = tested _ _ NoEntry (λ e. cc e)
 edit_wants_none (edit.Policy name policy) state = λ e. cc e
+edit_wants_none (edit.Policies names policy) state = λ e. cc e
 
 pub returns : goal.returns
 returns c = edit_wants_none
