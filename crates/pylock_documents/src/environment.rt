@@ -16,7 +16,6 @@ use std::alloc::{AllocError, Global};
 /// [`read_environment`](pylock_readers::read_environment) takes: JSON without white space, and LF.
 /// It takes memory for the text and, while it is made, for the environment, the tags and their
 /// object.
-#[tactic(auto, unfolding(crate::specs::Environment::target_text))]
 pub fn environment_text(alloc: Global, target: &Target) -> Result<String, AllocError>
     ensures { IfOk result (λ text. string_bytes text ≡ target_text target.now) }
 {
