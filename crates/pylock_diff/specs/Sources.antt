@@ -18,7 +18,7 @@ abbrev pub called : SourceValue → List ℕ
 called source = unwrap_or (source_file_name source) (place_of (source_location source))
 
 -- kind, file name or place, the type and the commit of a revision, subdirectory
-abbrev pub identity : SourceValue → Texts
+unfoldable pub identity : SourceValue → Texts
 identity source =
     Some (source_word source) ∷ Some (called source) ∷ source_vcs_kind source
     ∷ source_commit_id source ∷ source_subdirectory source ∷ []

@@ -70,6 +70,7 @@ fn push_identities<'x>(key: &mut Key<'x>, sources: &[PickedSource<'x>]) -> Resul
 
 /// Adds what a source is: kind, file name or place, the type and the commit of a revision,
 /// subdirectory.
+#[tactic(auto, unfolding(crate::specs::Sources::identity))]
 fn push_identity<'x>(key: &mut Key<'x>, source: PickedSource<'x>) -> Result<(), AllocError>
     ensures { OnOk result (key.new ≡ key.old ++ identity (lent_source source.entry)) }
 {
