@@ -12,24 +12,22 @@ ghost use Rattle.std.specs.Prelude.{◌≡◌, Ok, Err, IfOk, IfErr, OnOk, IsTru
 ghost use Rattle.std.specs.Option.{option_copied};
 ghost use Rattle.pylock_core.specs.Session.Judgement.{all_numbers, index_of, touched, verdicts_of};
 ghost use Rattle.pylock_core.specs.Session.State.{NumbersRise, apply, entry_at, first, in_rows};
-ghost use Rattle.pylock_core.specs.Session.State.{policy_of, takes_memory};
+ghost use Rattle.pylock_core.specs.Session.State.{takes_memory};
 ghost use Rattle.pylock_core.specs.Session.Fates.{fate_at, fates};
 ghost use Rattle.pylock_core.specs.Session.Steps.{answer, head_fault};
 ghost use Rattle.pylock_core.specs.declared.edit.EditError.{EditError};
 ghost use Rattle.pylock_core.specs.declared.edit.EditError.TheVariants.{Memory};
 
 use crate::answer::{Answer, FaultCode};
-use crate::edit::{Edit, EditError, Policy};
+use crate::edit::{Edit, EditError};
 use crate::fate::Fate;
 use crate::session::answering::fates::{fate_at, fates};
 use crate::session::answering::steps::answer;
 use crate::session::editing::entries::entry_in;
 use crate::session::parts::Parts;
 use crate::session::start_and_edit::{edit_parts, start_parts};
-use crate::session::tables::names::policy_named;
 use pylock_readers::{Entry, Head, Lock};
 use pymark_core::Environment;
-use pyver_core::NormalName;
 use pywheel_core::TagList;
 use std::alloc::{AllocError, Global};
 use std::marker::Model;
@@ -119,13 +117,6 @@ impl Session {
         ensures rising { NumbersRise self.new.state }
     {
         Ok(edit_parts(&mut self.parts, edit)?)
-    }
-
-    /// The policy of the name, in normal form: `Any` where no edit gave it one. It takes no memory.
-    pub fn policy(&self, name: &NormalName) -> Policy
-        ensures { result ≡ policy_of self.now.state.policies name.now }
-    {
-        policy_named(&self.parts.names, name.as_str())
     }
 
     /// The answer of the installation steps (PEP 751) on the state as it stands. Changes nothing.

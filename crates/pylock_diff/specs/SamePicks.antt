@@ -62,6 +62,7 @@ leaves_entries (edit.Environment change) = true
 leaves_entries (edit.Names change names) = true
 leaves_entries (edit.Tags tags) = true
 leaves_entries (edit.Policy name policy) = true
+leaves_entries (edit.Policies names policy) = true
 leaves_entries (edit.Add entry) = false
 leaves_entries (edit.Put n entry) = false
 leaves_entries (edit.Del n) = false

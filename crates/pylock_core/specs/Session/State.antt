@@ -175,6 +175,13 @@ apply (edit.Policy name policy) state =
 apply (edit.Policies names policy) state =
     Ok (record state { policies = with_policies state.policies names.items policy })
 
+-- the edits that an edit is: of several names one for each
+abbrev pub in_turn : Edit → List Edit
+in_turn (edit.Names change names) =
+    map (λ name. edit.Environment (name_change change name)) names.items
+in_turn (edit.Policies names policy) = map (λ name. edit.Policy name policy) names.items
+in_turn edit = edit ∷ []
+
 -- the state after edits, one after another, or the first refusal
 abbrev pub after_edits : List Edit → State → Result State EditError
 after_edits [] state = Ok state

@@ -93,6 +93,7 @@ kept (edit.Environment change) is state es last = left_same _ (after_change chan
 kept (edit.Names change names) is state es last = left_same _ (after_names change names.items state) state es last (names_kept change names.items state es last)
 kept (edit.Tags tags) is state es last = refl
 kept (edit.Policy name policy) is state es last = refl
+kept (edit.Policies names policy) is state es last = refl
 kept (edit.Add entry) is state es last = absurd (false≢true is)
 kept (edit.Put n entry) is state es last = absurd (false≢true is)
 kept (edit.Del n) is state es last = absurd (false≢true is)

@@ -8,7 +8,7 @@ ghost use Rattle.std.specs.Prelude.{◌||◌, false, slice_index_or, string_byte
 ghost use Rattle.std.specs.BTreeMap.{Updates, btree_map_len, get_by_text};
 ghost use Rattle.std.specs.String.{string_cmp};
 ghost use Rattle.pylock_core.specs.Inner.Tables.Index.{list_at, moved};
-ghost use Rattle.pylock_core.specs.Session.State.{Rises, policy_of, with_policies, with_policy};
+ghost use Rattle.pylock_core.specs.Session.State.{Rises, with_policies, with_policy};
 ghost use Rattle.pylock_core.specs.Inner.Tables.Names.{AreKnown, AreMarks, HasRoom, IsNames, Kept};
 ghost use Rattle.pylock_core.specs.Inner.Tables.Names.{Same, is_at};
 ghost use Rattle.pylock_core.specs.Inner.Tables.Names.{members_named, number_named, policies_in};
@@ -87,18 +87,6 @@ pub(crate) fn number_of(alloc: Global, names: &mut Names, name: &str) -> Result<
     push_within(&mut names.policies, Policy::Any);
     push_within(&mut names.members, Vec::new(alloc));
     Ok(number)
-}
-
-/// The policy of the name: `Any` where none was given. It takes no memory.
-#[tactic(auto, using(crate::proofs::Lemmas::Tables::Names::policy_of_in))]
-pub(crate) fn policy_named(names: &Names, name: &str) -> Policy
-    requires { IsNames names.now }
-    ensures { result ≡ policy_of (policies_in names.now) name.now }
-{
-    match names.numbers.get(name) {
-        Some(number) => names.policies[*number],
-        None => Policy::Any,
-    }
 }
 
 /// Gives the name of this number the policy.
