@@ -44,7 +44,7 @@ abbrev AllLeave : List Edit → Type 0
 AllLeave = AllByRecursion (λ e. leaves_entries e ≡ true)
 
 -- what an edit makes of the state, with other entries
-others_in : Result State EditError → List (ℕ × EntryValue) → ℕ → Result State EditError
+abbrev others_in : Result State EditError → List (ℕ × EntryValue) → ℕ → Result State EditError
 others_in (Ok state) es last = Ok (with_others state es last)
 others_in (Err error) es last = Err error
 
