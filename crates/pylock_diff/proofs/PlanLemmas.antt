@@ -171,27 +171,19 @@ alone_seen ps qs = (λ i. where_true (are_alone (keys_of_items ps i) (keys_of_it
 
 -- ---- the keys of a pick
 
+by_word : (P : List ℕ → Type 0) → P (codes "vcs") → P (codes "directory") → P (codes "editable") → P (codes "archive") → P (codes "wheel") → P (codes "sdist")
+    → (s : SourceValue) → P (source_word s)
+by_word P vcs directory editable archive wheel sdist (OfVcs value) = vcs
+by_word P vcs directory editable archive wheel sdist (OfDirectory value) = elim value.editable as (λ b. P (cond b (codes "editable") (codes "directory"))) [ true ↦ editable | false ↦ directory ]
+by_word P vcs directory editable archive wheel sdist (OfArchive value) = archive
+by_word P vcs directory editable archive wheel sdist (OfWheel value) = wheel
+by_word P vcs directory editable archive wheel sdist (OfSdist value) = sdist
+
 no_version : (s : SourceValue) → bytes_eq (source_word s) (codes "version") ≡ false
-no_version (OfVcs vcs) = refl
-no_version (OfDirectory directory) = by directory.editable
-  where
-    by : (b : Bool) → bytes_eq (cond b (codes "editable") (codes "directory")) (codes "version") ≡ false
-    by true = refl
-    by false = refl
-no_version (OfArchive archive) = refl
-no_version (OfWheel file) = refl
-no_version (OfSdist file) = refl
+no_version = by_word (λ word. bytes_eq word (codes "version") ≡ false) refl refl refl refl refl refl
 
 version_not : (s : SourceValue) → bytes_eq (codes "version") (source_word s) ≡ false
-version_not (OfVcs vcs) = refl
-version_not (OfDirectory directory) = by directory.editable
-  where
-    by : (b : Bool) → bytes_eq (codes "version") (cond b (codes "editable") (codes "directory")) ≡ false
-    by true = refl
-    by false = refl
-version_not (OfArchive archive) = refl
-version_not (OfWheel file) = refl
-version_not (OfSdist file) = refl
+version_not = by_word (λ word. bytes_eq (codes "version") word ≡ false) refl refl refl refl refl refl
 
 abbrev source_code : SourceValue → List ℕ
 source_code s = code (table (source_members s))

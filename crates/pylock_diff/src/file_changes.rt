@@ -197,38 +197,18 @@ fn push_place_change(
     ensures { OnOk result (changes.new.items ≡ changes.old.items
         ++ place_change name.now (lent_sources olds.now) (lent_sources news.now)) }
 {
-    if have_same_urls(alloc, olds, news)? && have_same_paths(alloc, olds, news)? {
+    let old_urls = urls_of(alloc, olds)?;
+    let new_urls = urls_of(alloc, news)?;
+    let old_paths = paths_of(alloc, olds)?;
+    let new_paths = paths_of(alloc, news)?;
+    let same_urls = are_same_sets(alloc, old_urls.as_slice(), new_urls.as_slice())?;
+    let same_paths = are_same_sets(alloc, old_paths.as_slice(), new_paths.as_slice())?;
+    if same_urls && same_paths {
         return Ok(());
     }
     let from = places_text(alloc, olds)?;
     let to = places_text(alloc, news)?;
     push_change(changes, ChangeKind::Place, name, Some(from), Some(to))
-}
-
-fn have_same_urls(
-    alloc: Global,
-    olds: &[PickedSource<'_>],
-    news: &[PickedSource<'_>],
-) -> Result<bool, AllocError>
-    ensures { IfOk result (λ same. same
-        ≡ are_same_sets (urls_of (lent_sources olds.now)) (urls_of (lent_sources news.now))) }
-{
-    let olds = urls_of(alloc, olds)?;
-    let news = urls_of(alloc, news)?;
-    are_same_sets(alloc, olds.as_slice(), news.as_slice())
-}
-
-fn have_same_paths(
-    alloc: Global,
-    olds: &[PickedSource<'_>],
-    news: &[PickedSource<'_>],
-) -> Result<bool, AllocError>
-    ensures { IfOk result (λ same. same
-        ≡ are_same_sets (paths_of (lent_sources olds.now)) (paths_of (lent_sources news.now))) }
-{
-    let olds = paths_of(alloc, olds)?;
-    let news = paths_of(alloc, news)?;
-    are_same_sets(alloc, olds.as_slice(), news.as_slice())
 }
 
 /// Whether the same texts stand in both.

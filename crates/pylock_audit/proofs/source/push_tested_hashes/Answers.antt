@@ -1,4 +1,4 @@
-use Rattle.std.proofs.Common.{◌≡◌, ◌∙◌, ◌++◌, ap, append-nil, sym}
+use Rattle.std.proofs.Common.{◌∙◌, ◌++◌, ap, append-nil, sym}
 use Rattle.pylock_readers.specs.Text.{text_pairs}
 use Rattle.pylock_core.specs.Session.Picks.{lent_source}
 use Rattle.pylock_audit.specs.Source.{tested_hashes}
