@@ -1,7 +1,7 @@
 //! What is printed in place of an answer, as JSON documents.
 
 ghost use Rattle.std.specs.Prelude.{◌≡◌, ◌++◌, ◌∷◌, [], IfOk, OnOk, decimal, map, option_map};
-ghost use Rattle.std.specs.Prelude.{option_to_list, string_bytes};
+ghost use Rattle.std.specs.Prelude.{string_bytes};
 ghost use Rattle.std.specs.Option.{option_copied};
 ghost use Rattle.pylock_program.specs.Text.Json.{environment_json, fault_json, lock_json};
 ghost use Rattle.pylock_program.specs.Text.Json.{line_refusal_json};
@@ -84,13 +84,16 @@ fn push_words(
         ++ words_json (map (λ word. word.now) front.now ++ refusal_words words)
         (option_copied told.entry)) }
 {
+    let word = words.word;
     let number = number_text(alloc, words.number)?;
-    let mut all = Vec::with_capacity(alloc, front.len() + 3)?;
-    all.extend_from_slice(front)?;
-    all.push(words.word)?;
-    push_maybe(&mut all, number.as_deref())?;
-    push_maybe(&mut all, words.detail)?;
-    push_refused(alloc, out, &all, told)
+    match (number.as_deref(), words.detail) {
+        (Some(number), Some(detail)) => {
+            push_both(alloc, out, front, &[word, number, detail], told)
+        }
+        (Some(number), None) => push_both(alloc, out, front, &[word, number], told),
+        (None, Some(detail)) => push_both(alloc, out, front, &[word, detail], told),
+        (None, None) => push_both(alloc, out, front, &[word], told),
+    }
 }
 
 fn number_text(alloc: Global, number: Option<u64>) -> Result<Option<String>, AllocError>
@@ -102,15 +105,22 @@ fn number_text(alloc: Global, number: Option<u64>) -> Result<Option<String>, All
     }
 }
 
-/// Pushes the word, where there is one.
-fn push_maybe<'a>(words: &mut Vec<&'a str>, word: Option<&'a str>) -> Result<(), AllocError>
-    ensures { OnOk result (map (λ word. word.now) words.new.items
-        ≡ map (λ word. word.now) words.old.items ++ option_to_list (option_copied word.entry)) }
+/// Pushes the document of a refusal, of words in two parts.
+fn push_both(
+    alloc: Global,
+    out: &mut Vec<u8>,
+    front: &[&str],
+    words: &[&str],
+    told: Option<&Diagnostic>,
+) -> Result<(), AllocError>
+    ensures { OnOk result (out.new.items ≡ out.old.items
+        ++ words_json (map (λ word. word.now) front.now ++ map (λ word. word.now) words.now)
+        (option_copied told.entry)) }
 {
-    if let Some(word) = word {
-        words.push(word)?;
-    }
-    Ok(())
+    let mut all = Vec::with_capacity(alloc, front.len() + words.len())?;
+    all.extend_from_slice(front)?;
+    all.extend_from_slice(words)?;
+    push_refused(alloc, out, &all, told)
 }
 
 /// Pushes the document of a refused lock or environment. Want of memory prints nothing.
