@@ -29,7 +29,7 @@ revision_data vcs =
     object_of ((codes "type", there vcs.kind) ∷ (codes "commit", there vcs.commit_id) ∷ [])
 
 -- the members of a source
-abbrev pub source_rows : SourceValue → List Row
+unfoldable pub source_rows : SourceValue → List Row
 source_rows source =
     (codes "kind", there (source_word source))
     ∷ (codes "file", maybe (source_file_name source))

@@ -40,6 +40,7 @@ fn entry_object(alloc: Global, number: u64, entry: &Entry) -> Result<Object, All
     Ok(object)
 }
 
+#[tactic(auto, unfolding(crate::specs::Source::source_rows))]
 fn put_source(
     alloc: Global,
     object: &mut Object,
