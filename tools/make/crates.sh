@@ -14,20 +14,20 @@ usage() { # usage STATUS: the comment at the head of the tool
 
 # ---- the crates
 
-declare -A lines=() # the line of each crate in crates.txt
+declare -A lines=() libraries=() # the line of each crate in crates.txt, and what it stands on
 while IFS= read -r line; do
+    [[ $line == *:* ]] || continue
     name=${line%%:*}
-    [[ $line != *:* ]] || lines[${name%% *}]=$line
+    name=${name%% *}
+    lines[$name]=$line
+    libraries[$name]=${line#*:}
+    libraries[$name]=${libraries[$name]# }
 done <"$top/crates.txt"
-libraries_of() { # libraries_of CRATE: what it stands on
-    local line=${lines[$1]#*:}
-    printf '%s\n' "${line# }"
-}
 crates=()
 add_crate() { # add_crate CRATE: the crates of this repository that it stands on, and then itself
     local library
     [[ " ${crates[*]-} " != *" $1 "* && -v lines[$1] ]] || return 0
-    for library in $(libraries_of "$1"); do add_crate "$library"; done
+    for library in ${libraries[$1]}; do add_crate "$library"; done
     crates+=("$1")
 }
 
