@@ -1,6 +1,6 @@
 /* pylock: Python's packaging rules and the plan of a pylock.toml, for C.
  *
- * tools/library builds libpylock.a and libpylock.so. Every function of the library
+ * tools/make/library builds libpylock.a and libpylock.so. Every function of the library
  * is proved; what a caller has to uphold is on this page.
  *
  * TEXTS are a pointer and a length in bytes, need no 0 byte at their end, and

@@ -1,6 +1,6 @@
 /* Calls each function of the library for C: answers, refusals, buffers that are too small, empty
    slots, texts that are no UTF-8. With the word `edits` it makes edits of each kind in two sessions
-   instead. The last line counts. With REFUSE_GROWTH (tools/growths/refuse.c) a call may answer
+   instead. The last line counts. With REFUSE_GROWTH (tools/check/growths/refuse.c) a call may answer
    PYLOCK_MEMORY; it has changed nothing then, so it is made again. */
 #include "pylock.h"
 
