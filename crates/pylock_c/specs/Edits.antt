@@ -44,15 +44,19 @@ names_change change bytes = do
   names ← names_argument bytes
   Ok (names_edit.Change change, names)
 
+-- the normal forms of these texts, where each is a name
+abbrev pub each_name : List (List ℕ) → Result (List (List ℕ)) LineRefusal
+each_name texts =
+    if list_all is_name texts then Ok (map normal_name texts) else Err line.Name
+
 -- the policy of each of these names
 abbrev pub names_policy : List ℕ → List ℕ → Result (NamesEdit × List (List ℕ)) LineRefusal
 names_policy bytes word = do
   text ← text_argument bytes
   word ← text_argument word
   policy ← policy_argument word
-  if list_all is_name (listed_texts text)
-  then Ok (names_edit.Policy policy, map normal_name (listed_texts text))
-  else Err line.Name
+  names ← each_name (listed_texts text)
+  Ok (names_edit.Policy policy, names)
 
 -- ---- changes of an environment
 
