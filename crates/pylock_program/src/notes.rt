@@ -5,6 +5,7 @@ pub(crate) mod export;
 pub(crate) mod fault;
 pub(crate) mod file;
 pub(crate) mod options;
+mod reason;
 pub(crate) mod refusal;
 
 use pylock_run::{Sink, write_all};
