@@ -7,6 +7,7 @@ pub(crate) mod file;
 pub(crate) mod options;
 mod reason;
 pub(crate) mod refusal;
+mod text;
 
 use pylock_run::{Sink, write_all};
 use pylock_shown::push_visible;
