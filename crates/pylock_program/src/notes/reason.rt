@@ -33,9 +33,13 @@ fn condition_reason(
     }
 }
 
-/// The set of a Python check, and the Python that it was judged on.
+/// The set of a Python check, unless it is empty, and the Python that it was judged on.
 fn python_reason(alloc: Global, session: &Session, set: String) -> Result<String, AllocError> {
     match session.environment().get(Var::PythonFullVersion) {
+        Some(python) if set.is_empty() => {
+            let python = Shown(python);
+            format!(in alloc; "this environment's Python is {python}")
+        }
         Some(python) => {
             let python = Shown(python);
             format!(in alloc; "{set}, and this environment's Python is {python}")
