@@ -288,7 +288,7 @@ pub(crate) fn judge_marker<F: Files, R: Source, W: Sink, N: Sink>(
     program_end(write_marker(alloc, form, marker, &machine, &mut host.outputs))
 }
 
-/// A person is told what was expected where the marker is refused.
+/// A person is told what was expected where the marker is refused, and why it has no value.
 #[tactic(auto, using(crate::proofs::OpeningLemmas::refused))]
 fn write_marker<W: Sink, N: Sink>(
     alloc: Global,
@@ -305,7 +305,7 @@ fn write_marker<W: Sink, N: Sink>(
         Ok(status) => {
             let end = print(&out, status, &mut outputs.writer);
             if let Ok(REFUSED_TEXT) = end {
-                tell_marker(alloc, &mut outputs.notes, text);
+                tell_marker(alloc, &mut outputs.notes, text, machine);
             }
             end
         }
