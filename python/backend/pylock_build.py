@@ -2,7 +2,7 @@
 
 The wheel carries the module, with `_native` compiled by the machine's `cc`, or that which CC names, for the limited API of
 Python: its tag is cp310-abi3-PLATFORM, or cp38-abi3-PLATFORM where Python 3.8 or 3.9 builds it. The library is linked in:
-the archive that PYLOCK_ARCHIVE names, else out/libpylock.a of the repository, which tools/library builds, else
+the archive that PYLOCK_ARCHIVE names, else out/libpylock.a of the repository, which tools/make/library builds, else
 dist/libpylock.a. Where PYLOCK_NATIVE names a compiled `_native`, the wheel has that one; PYLOCK_API names its API, as
 cp310. Where PYLOCK_PROGRAM names the built program, the wheel has it as the command pylock. PYLOCK_PLATFORM names the
 platforms of the tag, with dots between them. A wheel is the same bytes for the same files and tools.
@@ -88,7 +88,7 @@ def archive():
     """The path of the built library."""
     named = os.environ.get("PYLOCK_ARCHIVE")
     places = [named] if named else [os.path.join(TOP, folder, "libpylock.a") for folder in ("out", "dist")]
-    return first(places, "there is no built library at %s: tools/library builds it, or PYLOCK_ARCHIVE names it")
+    return first(places, "there is no built library at %s: tools/make/library builds it, or PYLOCK_ARCHIVE names it")
 
 
 def header():

@@ -302,6 +302,7 @@ static const Edit edits[] = {
     {"add", 1, false, pylock_session_add, NULL},
     {"line", 1, false, pylock_session_line, NULL},
     {"policy", 2, false, NULL, pylock_session_policy},
+    {"policies", 2, false, NULL, pylock_session_policies},
     {"target", 2, false, NULL, pylock_session_target},
     {"put", 1, true, NULL, NULL},
     {"del", 0, true, NULL, NULL},

@@ -77,9 +77,9 @@ def _edits(words: Any, lock: bytes) -> List[Tuple[str, str, Tuple[str, ...]]]:
 
 def _make(session: _native.KeptSession, edits: List[Tuple[str, str, Tuple[str, ...]]]) -> None:
     """Makes the edits, those of names that follow each other at once."""
-    for kind, run in groupby(edits, lambda option: option[2][0]):
+    for (kind, *more), run in groupby(edits, lambda option: (option[2][0], *option[2][2:])):
         several = list(run)
-        if not _native.session_edit_names(session, kind, [text for _, text, _ in several]):
+        if not _native.session_edit_names(session, kind, [text for _, text, _ in several], *more):
             for option in several:
                 _edit(session, *option)
 
@@ -89,10 +89,8 @@ def _edit(session: _native.KeptSession, word: str, text: str, edit: Tuple[str, .
         if not edit[0]:
             raise _Refused(word, text, "no =")
         if edit[0] == "policy" and text == ":all:":
-            # the entries of a name may be many: one edit is of all of them
             entries = json.loads(_native.session_explain(session, True)[0])["entries"]
-            for name in dict.fromkeys([entry["name"] for entry in entries]):
-                _native.session_edit(session, "policy", name, edit[2])
+            _native.session_edit_names(session, "policy", [entry["name"] for entry in entries], edit[2])
         else:
             _native.session_edit(session, *edit)
     except InvalidEdit as error:

@@ -237,16 +237,17 @@ def session_edit(kept: KeptSession, edit: str, *texts: str, number: Optional[int
 # the edits of a name that are made of several as one: what reads the extras, or the groups, is judged once
 _OF_SEVERAL = {
     "add_extra": "add_extras", "drop_extra": "drop_extras", "add_group": "add_groups", "drop_group": "drop_groups",
+    "policy": "policies",
 }
 
 
-def session_edit_names(kept: KeptSession, edit: str, names: List[str]) -> bool:
-    """Makes the edit of all of these names as one, where it is one of a name; gives whether that was done. Where one of
-    them is refused none is made: by themselves they tell which."""
+def session_edit_names(kept: KeptSession, edit: str, names: List[str], *more: str) -> bool:
+    """Makes the edit of all of these names as one, where it is one of a name; `more` is the word of a policy. Gives whether
+    that was done. Where one of them is refused none is made: by themselves they tell which."""
     if edit not in _OF_SEVERAL or not all([isinstance(name, str) and name and "\n" not in name for name in names]):
         return False
     try:
-        return kept.edit(_OF_SEVERAL[edit], None, "\n".join(names)) >= 0
+        return kept.edit(_OF_SEVERAL[edit], None, "\n".join(names), *more) >= 0
     except InvalidEdit:
         return False
 

@@ -5,7 +5,6 @@ from __future__ import annotations
 import json
 import threading
 from itertools import groupby
-from operator import itemgetter
 from typing import (
     TYPE_CHECKING, Any, Dict, Iterable, List, Mapping, NamedTuple, NoReturn, Optional, Tuple, TypedDict, Union,
 )
@@ -253,9 +252,9 @@ class Session(_OfThread):
     def _make(self, edits: Iterable[Tuple[str, ...]]) -> None:
         """Makes edits of texts, one after another; those that follow each other and are one for several names at once."""
         self._check_thread()
-        for edit, run in groupby(edits, itemgetter(0)):
+        for (edit, *more), run in groupby(edits, lambda texts: (texts[0], *texts[2:])):
             several = list(run)
-            if not _native.session_edit_names(self._kept, edit, [texts[1] for texts in several]):
+            if not _native.session_edit_names(self._kept, edit, [texts[1] for texts in several], *more):
                 for texts in several:
                     self._edit(*texts)
 
@@ -502,8 +501,7 @@ class Lock(_OfThread):
         edits += [("add_group", name) for name in options.get("groups", ())]
         edits += [("drop_group", name) for name in options.get("without_groups", ())]
         for name, policy in options.get("policies", ()):
-            # the entries of a name may be many: one edit is of all of them
-            names = dict.fromkeys([package.name for package in self.packages]) if name == ":all:" else (name,)
+            names = [package.name for package in self.packages] if name == ":all:" else [name]
             edits += [("policy", each, policy) for each in names]
         edits += [("set", name, value) for name, value in (options.get("variables") or {}).items()]
         return edits

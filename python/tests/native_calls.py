@@ -1,5 +1,5 @@
 """Every function, method and part of `_native`, each with arguments that it takes and arguments that it refuses: what is tried
-hard by the other files native_*.py, which tools/native runs."""
+hard by the other files native_*.py, which tools/check/native runs."""
 
 import collections
 import copy

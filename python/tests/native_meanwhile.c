@@ -1,4 +1,4 @@
-/* The module _meanwhile, for tools/native: what runs at an allocation of memory that the compiled part causes. `_native` is
+/* The module _meanwhile, for tools/check/native: what runs at an allocation of memory that the compiled part causes. `_native` is
  * compiled so that it says where each of its functions begins and ends (native_within.c). */
 #include <Python.h>
 

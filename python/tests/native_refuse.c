@@ -1,4 +1,4 @@
-/* The module _refuse, for tools/native: a call in which the Nth growth of memory is refused, alone or with all behind it.
+/* The module _refuse, for tools/check/native: a call in which the Nth growth of memory is refused, alone or with all behind it.
  *
  * A growth is a malloc, calloc or realloc of Python's allocators, or of the library that is linked into `_native`, whose
  * calls native_wrap.c sends here. It counts what the library holds too. */

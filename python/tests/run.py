@@ -1,7 +1,7 @@
 """Runs the tests, and counts them in the last line as the other tests of the repository do.
 
 Where NATIVE_COLLECTS is set, the collector runs at each allocation that the compiled part causes, which is built for that
-(tools/native)."""
+(tools/check/native)."""
 
 import gc
 import importlib

@@ -1,6 +1,6 @@
 """Measures the module beside `packaging`, and judges nothing: the time of each, and the ratio.
 
-    tools/speed python
+    tools/measure/speed python
     PYLOCK_MODULE=FOLDER PYLOCK_PEER=FOLDER python3 python/tests/speed.py [--table] [--with-loop] [ROW ..]
 
 `python/backend/pylock_build.py place FOLDER` makes the first folder; the second has the folder `packaging`, where it isn't
@@ -230,8 +230,8 @@ def selected(library, document, variables, tags):
 
 
 def locks(count):
-    """Rows of a whole lock with wheels, as tools/speed makes it: of the text of `pylock.toml` and of its read document."""
-    tool = runpy.run_path(os.path.join(TOP, "tools", "speed"))
+    """Rows of a whole lock with wheels, as tools/measure/speed makes it: of the text of `pylock.toml` and of its read document."""
+    tool = runpy.run_path(os.path.join(TOP, "tools", "measure", "speed"))
     text = "".join(tool["wheels"](count))
     given = json.loads(tool["environment"]("3.12.4"))
     content, variables = text.encode(), given["environment"]

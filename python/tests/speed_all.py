@@ -1,6 +1,6 @@
 """Measures every public name of the module beside `packaging` 26.2 or later, and says what isn't well ahead of it.
 
-    tools/speed python --all [WORD ..]
+    tools/measure/speed python --all [WORD ..]
     PYLOCK_MODULE=FOLDER PYLOCK_PEER=FOLDER python3 python/tests/speed_all.py [WORD ..]
 
 `speed_rows` lists what is measured: of each item a new one that is asked for the first time, and one that is asked again. To

@@ -1,4 +1,4 @@
-"""What `tools/speed python --all` measures: a list of every public name of the modules of `packaging` that are here.
+"""What `tools/measure/speed python --all` measures: a list of every public name of the modules of `packaging` that are here.
 
 A part of the list is a module, expressions for items, and lines to run on each item. `n` is a number, of each new item
 another. A line may read `item`; `other`, which is one more item and equal to the one that is kept; and the public names of

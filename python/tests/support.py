@@ -8,7 +8,7 @@ import sys
 HERE = os.path.dirname(os.path.abspath(__file__))
 PYTHON = os.path.dirname(HERE)
 TOP = os.path.dirname(PYTHON)
-# the folder in which the module lies with its compiled part, as tools/python makes it
+# the folder in which the module lies with its compiled part, as tools/check/module makes it
 MODULE = os.environ.get("PYLOCK_MODULE", PYTHON)
 if MODULE not in sys.path and not os.environ.get("PYLOCK_INSTALLED"):
     sys.path.insert(0, MODULE)

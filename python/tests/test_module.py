@@ -160,7 +160,7 @@ class Program(unittest.TestCase):
 
     @unittest.skipUnless(reference() and release(reference()) >= (26, 2), "no packaging of 26.2 or later; PYLOCK_PEER names the folder it is in")
     def test_typed(self):
-        """The program whose types tools/annotations checks."""
+        """The program whose types tools/check/annotations checks."""
         here = "python", "tests", "typed_program.py"
         self.assertEqual(self.run_as("pylock", *here), self.run_as(reference().__name__, *here))
 
@@ -207,7 +207,7 @@ class Installed(unittest.TestCase):
                 self.assertEqual(file.read(), first)
             self.assertEqual(self.backend("build_sdist(%r)" % folder).stdout, b"pylock-%s.tar.gz\n" % pylock.__version__.encode())
             for variable, value, told in (
-                ("PYLOCK_ARCHIVE", os.path.join(folder, "none"), b"tools/library"), ("CC", os.path.join(folder, "none"), b"there is no C compiler"),
+                ("PYLOCK_ARCHIVE", os.path.join(folder, "none"), b"tools/make/library"), ("CC", os.path.join(folder, "none"), b"there is no C compiler"),
             ):
                 missing = self.backend("build_wheel(%r)" % folder, **{variable: value})
                 self.assertEqual((missing.returncode, missing.stdout.count(b"\n")), (1, 1), missing.stdout)

@@ -1,4 +1,4 @@
-"""The list of what `tools/speed python --all` measures: it has every public name of the modules of `packaging`."""
+"""The list of what `tools/measure/speed python --all` measures: it has every public name of the modules of `packaging`."""
 
 import dataclasses
 import inspect

@@ -1,4 +1,4 @@
-"""The worked examples of the repository, once through Python: the rows of crates/cases and of tools/rows and what stands
+"""The worked examples of the repository, once through Python: the rows of crates/cases and of tools/check/rows and what stands
 beside them as expected, and the example of the README."""
 
 import contextlib
@@ -12,7 +12,7 @@ import unittest
 
 from support import TOP, bytes_of, text_of, toml
 
-sys.path.append(os.path.join(TOP, "tools", "rows"))
+sys.path.append(os.path.join(TOP, "tools", "check", "rows"))
 from worked import bytes_in, title_of
 
 import pylock
@@ -22,7 +22,7 @@ from pylock import _library as _native
 READER = toml()
 HEAD = b'lock-version = "1.0"\ncreated-by = "t"\n'
 NOTHING = b'{"environment":{},"tags":[]}'
-# The rows that stand in tools/rows; the others are those of crates/cases.
+# The rows that stand in tools/check/rows; the others are those of crates/cases.
 ROWS = ("replies", "plans", "explains")
 STATUS = re.compile(r"(^|\n)status [0-9]\Z")
 
@@ -33,7 +33,7 @@ def answers():
     One title may stand in several files: commands are told with their lines (`> `), a report with its status.
     """
     found, blocks, kept = {}, [], None
-    texts = [text_of("crates", "cases", "stdout"), *(text_of("tools", "rows", name + ".txt") for name in ROWS)]
+    texts = [text_of("crates", "cases", "stdout"), *(text_of("tools", "check", "rows", name + ".txt") for name in ROWS)]
     for line in "\n".join(texts).split("\n"):
         if line.startswith("-- "):
             name, kept = line[3:], []
@@ -185,7 +185,7 @@ class Worked(unittest.TestCase):
 
     def rows(self, file, kind, told):
         """The cases of a kind with what is expected of them, told as commands or as a report."""
-        place = ("tools", "rows") if file in ROWS else ("crates", "cases", "data")
+        place = ("tools", "check", "rows") if file in ROWS else ("crates", "cases", "data")
         cases = READER.loads(text_of(*place, file + ".toml"))[kind]
         seen = {}
         for case in cases:

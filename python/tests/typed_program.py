@@ -1,6 +1,6 @@
 #!/usr/bin/env python3
 """A typed program over every public name of `packaging` 26.2, which `mypy --strict` passes: with `pylock` in the place of
-`packaging` in the imports it passes too, and both print the same (tools/annotations, test_module.py).
+`packaging` in the imports it passes too, and both print the same (tools/check/annotations, test_module.py).
 
 The classes at its end override each public method with the signature that it has in 26.2.
 """

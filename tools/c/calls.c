@@ -1,6 +1,6 @@
 /* Calls each function of the library for C: answers, refusals, buffers that are too small, empty
    slots, texts that are no UTF-8. With the word `edits` it makes edits of each kind in two sessions
-   instead. The last line counts. With REFUSE_GROWTH (tools/growths/refuse.c) a call may answer
+   instead. The last line counts. With REFUSE_GROWTH (tools/check/growths/refuse.c) a call may answer
    PYLOCK_MEMORY; it has changed nothing then, so it is made again. */
 #include "pylock.h"
 
@@ -976,6 +976,13 @@ static void edited_sessions(pylock_session *session)
     HOLDS(judged == 1);
     stands(session, "fault 3\tno-file\n", false, "3");
     IS(pylock_session_policy(session, TEXT("c"), TEXT("any"), &judged), PYLOCK_OK);
+    IS(pylock_session_policies(session, TEXT("C\nc\nnone"), TEXT("source"), &judged), PYLOCK_OK);
+    HOLDS(judged == 1);
+    stands(session, "fault 3\tno-file\n", false, "3");
+    IS(pylock_session_policies(session, TEXT("c"), TEXT("any"), &judged), PYLOCK_OK);
+    HOLDS(judged == 1);
+    IS(pylock_session_policies(session, TEXT(""), TEXT("source"), &judged), PYLOCK_OK);
+    HOLDS(judged == 0);
     IS(pylock_session_tags(session, TEXT(""), &judged), PYLOCK_OK);
     stands(session, "fault 3\tno-file\n", false, "3");
     IS(pylock_session_tags(session, TEXT("cp312-cp312-any\npy3-none-any"), &judged), PYLOCK_OK);
@@ -1014,6 +1021,11 @@ static void refused_edits(pylock_session *session)
     IS(pylock_session_add_extras(session, TEXT("sci\n\xff"), &judged), PYLOCK_NOT_UTF8);
     IS(pylock_session_add_groups(session, TEXT("test\nsci"), &judged), PYLOCK_EDIT_GROUP);
     IS(pylock_session_drop_groups(session, TEXT("test\n\xff"), &judged), PYLOCK_NOT_UTF8);
+    IS(pylock_session_policies(session, TEXT("a b"), TEXT("no"), &judged), PYLOCK_EDIT_ARGUMENT);
+    IS(pylock_session_policies(session, TEXT("a\na b"), TEXT("any"), &judged), PYLOCK_EDIT_NAME);
+    IS(pylock_session_policies(session, TEXT("a\n"), TEXT("any"), &judged), PYLOCK_EDIT_NAME);
+    IS(pylock_session_policies(session, TEXT("\xff"), TEXT("any"), &judged), PYLOCK_NOT_UTF8);
+    IS(pylock_session_policies(session, TEXT("a"), TEXT("\xff"), &judged), PYLOCK_NOT_UTF8);
     IS(pylock_session_tags(session, TEXT("py3-none-any\n"), &judged), PYLOCK_EDIT_TAG);
     IS(pylock_session_tags(session, TEXT("py3 none any"), &judged), PYLOCK_EDIT_TAG);
     IS(pylock_session_tags(session, TEXT("\xff"), &judged), PYLOCK_NOT_UTF8);

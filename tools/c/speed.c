@@ -1,4 +1,4 @@
-/* Measures calls of the library for C, and judges nothing; tools/speed builds and runs it. Without
+/* Measures calls of the library for C, and judges nothing; tools/measure/speed builds and runs it. Without
    words each call is made a hundred thousand times. With `start LOCK ENVIRONMENT` it says what the
    start of a session takes beside the reading of the two files. A line is a name, a TAB and
    nanoseconds of processor time, of a call or of the start. */

@@ -1,16 +1,17 @@
 -- What one source of an entry gives to each kind of finding.
 use Rattle.std.specs.Prelude.{ℕ, Bool, false, ◌==◌, ◌&&◌, ◌||◌, ◌++◌, not, codes, List, [], ◌∷◌}
-use Rattle.std.specs.Prelude.{filter, length, map, Option, Some, None, if◌then◌else◌}
+use Rattle.std.specs.Prelude.{filter, length, map, Option, Some, None, is_some, option_and_then}
 use Rattle.std.specs.Int.{is_in_range}
 use Rattle.std.specs.List.{flat_map, join_by, list_all}
 use Rattle.std.specs.Option.{option_map_or}
 use Rattle.std.specs.Str.{bytes_eq}
-use Rattle.pylock_readers.specs.Entry.{ArchiveValue, DirectoryValue, FileValue, VcsValue, file_name}
-use Rattle.pylock_core.specs.Session.Picks.{OfArchive, OfDirectory, OfSdist, OfVcs, OfWheel}
-use Rattle.pylock_core.specs.Session.Picks.{SourceValue}
+use Rattle.pylock_readers.specs.Entry.{FileValue, file_name}
+use Rattle.pylock_core.specs.Session.Picks.{SourceValue, is_unhashed, source_commit_id, source_file}
+use Rattle.pylock_core.specs.Session.Picks.{source_file_name, source_hashes, source_location}
+use Rattle.pylock_core.specs.Session.Picks.{source_subdirectory, source_vcs, source_vcs_kind}
 use Rattle.pylock_core.specs.declared.answer.PickSource.{PickSource}
 use Rattle.pylock_places.specs.Query.{has_secret}
-use Rattle.pylock_places.specs.Shown.{file_label, shown_place}
+use Rattle.pylock_places.specs.Shown.{file_label, source_label, source_text}
 use Rattle.pylock_places.specs.Url.{has_credentials, is_https, is_safe_remote}
 use Rattle.pylock_shown.specs.Hidden.{hidden}
 use Rattle.pylock_audit.specs.Finding.{told_where}
@@ -20,60 +21,11 @@ use Rattle.pylock_audit.specs.Unsafe.{has_control, is_outside_path, is_unsafe_na
 use Rattle.pylock_audit.specs.declared.finding.FindingKind.{FindingKind}
 use Rattle.pylock_audit.specs.declared.finding.FindingKind.TheVariants as kind
 
--- ---- what a source has
-
-abbrev pub url_of : SourceValue → Option (List ℕ)
-url_of (OfVcs vcs) = vcs.location.url
-url_of (OfDirectory directory) = None
-url_of (OfArchive archive) = archive.location.url
-url_of (OfWheel file) = file.location.url
-url_of (OfSdist file) = file.location.url
-
-abbrev pub path_of : SourceValue → Option (List ℕ)
-path_of (OfVcs vcs) = vcs.location.path
-path_of (OfDirectory directory) = Some directory.path
-path_of (OfArchive archive) = archive.location.path
-path_of (OfWheel file) = file.location.path
-path_of (OfSdist file) = file.location.path
-
-abbrev pub hashes_of : SourceValue → Option (List Hash)
-hashes_of (OfVcs vcs) = None
-hashes_of (OfDirectory directory) = None
-hashes_of (OfArchive archive) = Some archive.hashes
-hashes_of (OfWheel file) = Some file.hashes
-hashes_of (OfSdist file) = Some file.hashes
-
--- the sdist or the wheel that it is
-abbrev pub file_of : SourceValue → Option FileValue
-file_of (OfWheel file) = Some file
-file_of (OfSdist file) = Some file
-file_of source = None
-
-abbrev pub subdirectory_of : SourceValue → Option (List ℕ)
-subdirectory_of (OfVcs vcs) = vcs.subdirectory
-subdirectory_of (OfDirectory directory) = directory.subdirectory
-subdirectory_of (OfArchive archive) = archive.subdirectory
-subdirectory_of (OfWheel file) = None
-subdirectory_of (OfSdist file) = None
-
-abbrev pub is_vcs : SourceValue → Bool
-is_vcs (OfVcs vcs) = Bool.true
-is_vcs source = false
-
--- ---- how it is named
-
--- a file that has hashes: its kind, and its file name or place
-abbrev pub label : SourceValue → List ℕ
-label (OfVcs vcs) = []
-label (OfDirectory directory) = []
-label (OfArchive archive) = codes "archive " ++ shown_place archive.location
-label (OfWheel file) = codes "wheel " ++ file_label file
-label (OfSdist file) = codes "sdist " ++ file_label file
-
 -- ---- hashes
 
+-- a file that has none
 abbrev pub without_hash : SourceValue → List Hash → List (List ℕ)
-without_hash s [] = label s ∷ []
+without_hash s [] = told_where (not (is_unhashed s)) (source_text s)
 without_hash s hashes = []
 
 -- the algorithms as they are shown, joined by `,`
@@ -84,7 +36,7 @@ abbrev pub weakly_hashed : SourceValue → List Hash → List (List ℕ)
 weakly_hashed s [] = []
 weakly_hashed s (hash ∷ hashes) =
     told_where (is_weak (hash ∷ hashes))
-    (label s ++ codes " " ++ algorithms (hash ∷ hashes))
+    (source_text s ++ codes " " ++ algorithms (hash ∷ hashes))
 
 -- whether a kind of finding tells of a hash
 abbrev pub is_told : FindingKind → Hash → Bool
@@ -95,10 +47,7 @@ is_told kind hash = false
 -- the hashes that a kind tells of, each by its algorithm
 abbrev pub tested_hashes : FindingKind → SourceValue → List Hash → List (List ℕ)
 tested_hashes kind s hashes =
-    map (λ hash. label s ++ codes " " ++ hidden hash.0) (filter (is_told kind) hashes)
-
-abbrev pub over_hashes : (List Hash → List (List ℕ)) → SourceValue → List (List ℕ)
-over_hashes details s = option_map_or details (hashes_of s) []
+    map (λ hash. source_text s ++ codes " " ++ hidden hash.0) (filter (is_told kind) hashes)
 
 -- ---- texts
 
@@ -113,9 +62,8 @@ name_where test file = text_where test (λ name. file_label file) (file_name fil
 
 -- a URL that anybody on the way may change
 abbrev pub is_open_url : SourceValue → List ℕ → Bool
-is_open_url s url = not (is_https url || (is_vcs s && is_safe_remote url))
+is_open_url s url = not (is_https url || (is_some (source_vcs s) && is_safe_remote url))
 
--- a commit that isn't one for all time
 abbrev pub is_hash_digit : ℕ → Bool
 is_hash_digit b = is_in_range 48 57 b || is_in_range 97 102 b || is_in_range 65 70 b
 
@@ -125,11 +73,38 @@ is_commit_hash text = (length text == 40 || length text == 64) && list_all is_ha
 abbrev pub has_commit_hashes : List ℕ → Bool
 has_commit_hashes kind = bytes_eq kind (codes "git") || bytes_eq kind (codes "hg")
 
-abbrev pub moving_commit : SourceValue → List (List ℕ)
-moving_commit (OfVcs vcs) =
-    if has_commit_hashes vcs.kind && not (is_commit_hash vcs.commit_id)
-    then hidden vcs.commit_id ∷ [] else []
-moving_commit source = []
+-- a commit that isn't one for all time
+abbrev pub is_moving : SourceValue → List ℕ → Bool
+is_moving s commit =
+    option_map_or has_commit_hashes (source_vcs_kind s) false && not (is_commit_hash commit)
+
+-- the text of a source that a kind of finding looks at
+abbrev pub text_of : FindingKind → SourceValue → Option (List ℕ)
+text_of kind.UnsafeFileName s = source_file_name s
+text_of kind.OutsidePath s = (source_location s).path
+text_of kind.UnsafeSubdirectory s = source_subdirectory s
+text_of kind.NotHttps s = (source_location s).url
+text_of kind.Credentials s = (source_location s).url
+text_of kind.SecretInUrl s = (source_location s).url
+text_of kind.MovingCommit s = source_commit_id s
+text_of kind s = None
+
+-- whether it tells of that text
+abbrev pub is_text_told : FindingKind → SourceValue → List ℕ → Bool
+is_text_told kind.UnsafeFileName s name = is_unsafe_name name
+is_text_told kind.OutsidePath s path = is_outside_path path
+is_text_told kind.UnsafeSubdirectory s path = is_unsafe_path path
+is_text_told kind.NotHttps s url = is_open_url s url
+is_text_told kind.Credentials s url = has_credentials url
+is_text_told kind.SecretInUrl s url = has_secret url
+is_text_told kind.MovingCommit s commit = is_moving s commit
+is_text_told kind s text = false
+
+-- how it does: by what a file is called, by the path of the key of a secret, or by the text
+abbrev pub told_text : FindingKind → PickSource × SourceValue → List ℕ → List ℕ
+told_text kind.UnsafeFileName s name = source_label s.1
+told_text kind.SecretInUrl s url = source_path s.0 ++ codes "url"
+told_text kind s text = hidden text
 
 -- ---- control characters
 
@@ -154,59 +129,30 @@ controlled_hash name hash =
 abbrev pub controlled_hashes : PickSource → List Hash → List (List ℕ)
 controlled_hashes name hashes = flat_map (controlled_hash name) hashes
 
-abbrev pub url_and_path : PickSource → Option (List ℕ) → Option (List ℕ) → List (List ℕ)
-url_and_path name url path =
-    controlled name (codes "url") url ++ controlled name (codes "path") path
-
-abbrev pub controlled_vcs : PickSource → VcsValue → List (List ℕ)
-controlled_vcs name vcs =
-    controlled name (codes "type") (Some vcs.kind)
-    ++ controlled name (codes "commit-id") (Some vcs.commit_id)
-    ++ url_and_path name vcs.location.url vcs.location.path
-    ++ controlled name (codes "subdirectory") vcs.subdirectory
-
-abbrev pub controlled_directory : PickSource → DirectoryValue → List (List ℕ)
-controlled_directory name directory =
-    controlled name (codes "path") (Some directory.path)
-    ++ controlled name (codes "subdirectory") directory.subdirectory
-
-abbrev pub controlled_archive : PickSource → ArchiveValue → List (List ℕ)
-controlled_archive name archive =
-    url_and_path name archive.location.url archive.location.path
-    ++ controlled_hashes name archive.hashes
-    ++ controlled name (codes "subdirectory") archive.subdirectory
-
-abbrev pub controlled_file : PickSource → FileValue → List (List ℕ)
-controlled_file name file =
-    controlled name (codes "name") file.name
-    ++ url_and_path name file.location.url file.location.path
-    ++ controlled_hashes name file.hashes
+-- the key `name` of a wheel or an sdist
+abbrev pub name_key : SourceValue → Option (List ℕ)
+name_key source = option_and_then (λ (file : FileValue). file.name) (source_file source)
 
 abbrev pub controlled_texts : PickSource → SourceValue → List (List ℕ)
-controlled_texts name (OfVcs vcs) = controlled_vcs name vcs
-controlled_texts name (OfDirectory directory) = controlled_directory name directory
-controlled_texts name (OfArchive archive) = controlled_archive name archive
-controlled_texts name (OfWheel file) = controlled_file name file
-controlled_texts name (OfSdist file) = controlled_file name file
+controlled_texts name source =
+    controlled name (codes "type") (source_vcs_kind source)
+    ++ controlled name (codes "commit-id") (source_commit_id source)
+    ++ controlled name (codes "name") (name_key source)
+    ++ controlled name (codes "url") (source_location source).url
+    ++ controlled name (codes "path") (source_location source).path
+    ++ controlled_hashes name (source_hashes source)
+    ++ controlled name (codes "subdirectory") (source_subdirectory source)
 
 -- ---- the rows
 
 -- what a source gives to a kind of finding that looks at each source by itself
 abbrev pub details : FindingKind → PickSource × SourceValue → List (List ℕ)
-details kind.NoHash s = over_hashes (without_hash s.1) s.1
-details kind.WeakHash s = over_hashes (weakly_hashed s.1) s.1
-details kind.OddHash s = over_hashes (tested_hashes kind.OddHash s.1) s.1
-details kind.BadHash s = over_hashes (tested_hashes kind.BadHash s.1) s.1
-details kind.UnsafeFileName s = option_map_or (name_where is_unsafe_name) (file_of s.1) []
-details kind.OutsidePath s = text_where is_outside_path hidden (path_of s.1)
-details kind.UnsafeSubdirectory s = text_where is_unsafe_path hidden (subdirectory_of s.1)
-details kind.NotHttps s = text_where (is_open_url s.1) hidden (url_of s.1)
-details kind.Credentials s = text_where has_credentials hidden (url_of s.1)
-details kind.SecretInUrl s =
-    text_where has_secret (λ url. source_path s.0 ++ codes "url") (url_of s.1)
-details kind.MovingCommit s = moving_commit s.1
+details kind.NoHash s = without_hash s.1 (source_hashes s.1)
+details kind.WeakHash s = weakly_hashed s.1 (source_hashes s.1)
+details kind.OddHash s = tested_hashes kind.OddHash s.1 (source_hashes s.1)
+details kind.BadHash s = tested_hashes kind.BadHash s.1 (source_hashes s.1)
 details kind.ControlCharacter s = controlled_texts s.0 s.1
-details kind s = []
+details kind s = text_where (is_text_told kind s.1) (told_text kind s) (text_of kind s.1)
 
 abbrev pub over_sources : FindingKind → List (PickSource × SourceValue) → List (List ℕ)
 over_sources kind sources = flat_map (details kind) sources

@@ -4,17 +4,15 @@ ghost use Rattle.std.specs.Prelude.{◌≡◌, ◌++◌, IfOk, IsTrue, OnOk, fal
 ghost use Rattle.std.specs.Option.{option_copied};
 ghost use Rattle.pylock_readers.specs.Text.{text_pair, text_pairs};
 ghost use Rattle.pylock_core.specs.Session.Picks.{lent_source};
-ghost use Rattle.pylock_audit.specs.Source.{controlled, controlled_archive, controlled_directory};
-ghost use Rattle.pylock_audit.specs.Source.{controlled_file, controlled_hash, controlled_hashes};
-ghost use Rattle.pylock_audit.specs.Source.{controlled_texts, controlled_vcs, hash_shown};
-ghost use Rattle.pylock_audit.specs.Source.{hash_text, url_and_path};
+ghost use Rattle.pylock_audit.specs.Source.{controlled, controlled_hash, controlled_hashes};
+ghost use Rattle.pylock_audit.specs.Source.{controlled_texts, hash_shown, hash_text, name_key};
 ghost use Rattle.pylock_audit.specs.Unsafe.{has_control};
 
 use crate::finding::push_plain;
 use crate::hash::Hash;
 use crate::keys::source_key_path;
 use crate::unsafe_text::has_control;
-use pylock_core::{Archive, Directory, DistributionFile, PickSource, PickedSource, Vcs};
+use pylock_core::{PickSource, PickedSource};
 use pylock_shared::LabelledText;
 use pylock_shown::{hidden, is_printable};
 use std::alloc::{AllocError, Global};
@@ -38,20 +36,6 @@ fn push_text(
         }
         _ => Ok(()),
     }
-}
-
-fn push_url_and_path(
-    alloc: Global,
-    list: &mut Vec<LabelledText>,
-    name: PickSource,
-    url: Option<&str>,
-    path: Option<&str>,
-) -> Result<(), AllocError>
-    ensures { OnOk result (list.new.items ≡ list.old.items
-        ++ url_and_path name (option_copied url.entry) (option_copied path.entry)) }
-{
-    push_text(alloc, list, name, "url", url)?;
-    push_text(alloc, list, name, "path", path)
 }
 
 fn push_hashes(
@@ -119,60 +103,11 @@ fn hash_shown(alloc: Global, hash: &Hash) -> Result<String, AllocError>
     hidden(alloc, text.as_str())
 }
 
-fn push_vcs(
-    alloc: Global,
-    list: &mut Vec<LabelledText>,
-    name: PickSource,
-    vcs: &Vcs,
-) -> Result<(), AllocError>
-    ensures { OnOk result (list.new.items
-        ≡ list.old.items ++ controlled_vcs name vcs.now) }
+/// The key `name` of a wheel or an sdist.
+fn name_key(source: PickedSource<'_>) -> Option<&str>
+    ensures { option_copied result ≡ name_key (lent_source source.entry) }
 {
-    push_text(alloc, list, name, "type", Some(vcs.kind()))?;
-    push_text(alloc, list, name, "commit-id", Some(vcs.commit_id()))?;
-    push_url_and_path(alloc, list, name, vcs.url(), vcs.path())?;
-    push_text(alloc, list, name, "subdirectory", vcs.subdirectory())
-}
-
-fn push_directory(
-    alloc: Global,
-    list: &mut Vec<LabelledText>,
-    name: PickSource,
-    directory: &Directory,
-) -> Result<(), AllocError>
-    ensures { OnOk result (list.new.items
-        ≡ list.old.items ++ controlled_directory name directory.now) }
-{
-    push_text(alloc, list, name, "path", Some(directory.path()))?;
-    push_text(alloc, list, name, "subdirectory", directory.subdirectory())
-}
-
-fn push_archive(
-    alloc: Global,
-    list: &mut Vec<LabelledText>,
-    name: PickSource,
-    archive: &Archive,
-) -> Result<(), AllocError>
-    ensures { OnOk result (list.new.items
-        ≡ list.old.items ++ controlled_archive name archive.now) }
-{
-    push_url_and_path(alloc, list, name, archive.url(), archive.path())?;
-    push_hashes(alloc, list, name, archive.hashes())?;
-    push_text(alloc, list, name, "subdirectory", archive.subdirectory())
-}
-
-fn push_file(
-    alloc: Global,
-    list: &mut Vec<LabelledText>,
-    name: PickSource,
-    file: &DistributionFile,
-) -> Result<(), AllocError>
-    ensures { OnOk result (list.new.items
-        ≡ list.old.items ++ controlled_file name file.now) }
-{
-    push_text(alloc, list, name, "name", file.name())?;
-    push_url_and_path(alloc, list, name, file.url(), file.path())?;
-    push_hashes(alloc, list, name, file.hashes())
+    source.file()?.name()
 }
 
 /// Adds the texts of a source that have a control character, each with the path of its key.
@@ -185,12 +120,11 @@ pub(crate) fn push_controlled(
     ensures { OnOk result (list.new.items
         ≡ list.old.items ++ controlled_texts name (lent_source source.entry)) }
 {
-    match source {
-        PickedSource::Vcs(vcs) => push_vcs(alloc, list, name, vcs),
-        PickedSource::Directory(directory) => push_directory(alloc, list, name, directory),
-        PickedSource::Archive(archive) => push_archive(alloc, list, name, archive),
-        PickedSource::Wheel(file) | PickedSource::Sdist(file) => {
-            push_file(alloc, list, name, file)
-        }
-    }
+    push_text(alloc, list, name, "type", source.vcs_kind())?;
+    push_text(alloc, list, name, "commit-id", source.commit_id())?;
+    push_text(alloc, list, name, "name", name_key(source))?;
+    push_text(alloc, list, name, "url", source.url())?;
+    push_text(alloc, list, name, "path", source.path())?;
+    push_hashes(alloc, list, name, source.hashes())?;
+    push_text(alloc, list, name, "subdirectory", source.subdirectory())
 }

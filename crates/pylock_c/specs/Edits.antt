@@ -1,9 +1,9 @@
 -- The changes and the commands of C. Their texts are judged as texts first, from the left.
-use Rattle.std.specs.Prelude.{ℕ, List, [], ◌∷◌, map, Result, Ok}
-use Rattle.std.specs.List.{slice_split}
+use Rattle.std.specs.Prelude.{ℕ, List, [], ◌∷◌, map, if◌then◌else◌, Result, Ok, Err}
+use Rattle.std.specs.List.{list_all, slice_split}
 use Rattle.std.specs.Result.{result_map_both}
 use Rattle.pytext.specs.Results.{◌>>=◌}
-use Rattle.pyver_core.specs.Name.{normal_name}
+use Rattle.pyver_core.specs.Name.{is_name, normal_name}
 use Rattle.pymark_core.specs.declared.change.Change.{Change}
 use Rattle.pymark_core.specs.declared.change.Change.TheVariants as change
 use Rattle.pywheel_core.specs.Target.Reading.{target_of}
@@ -13,6 +13,7 @@ use Rattle.pywheel_core.specs.declared.error.TargetError.{TargetError}
 use Rattle.pylock_readers.specs.Entry.{EntryValue}
 use Rattle.pylock_core.specs.declared.edit.Edit.{Edit}
 use Rattle.pylock_core.specs.declared.edit.Edit.TheVariants as edit
+use Rattle.pylock_core.specs.declared.edit.NameChange.{NameChange}
 use Rattle.pylock_run.specs.Line.{is_lf}
 use Rattle.pylock_run.specs.Line.Commands.{change_edit, edit_command, entry_argument, name_or}
 use Rattle.pylock_run.specs.Line.Commands.{policy_argument, tags_argument, variable_argument}
@@ -21,6 +22,8 @@ use Rattle.pylock_run.specs.declared.line.commands.Command.TheVariants as comman
 use Rattle.pylock_run.specs.declared.line.refusal.LineRefusal.{LineRefusal}
 use Rattle.pylock_run.specs.declared.line.refusal.LineRefusal.TheVariants as line
 use Rattle.pylock_c.specs.Text.{text_argument}
+use Rattle.pylock_c.specs.declared.edits.NamesEdit.{NamesEdit}
+use Rattle.pylock_c.specs.declared.edits.NamesEdit.TheVariants as names_edit
 
 -- ---- lists
 
@@ -34,6 +37,26 @@ abbrev pub names_argument : List ℕ → Result (List (List ℕ)) LineRefusal
 names_argument bytes = do
   text ← text_argument bytes
   Ok (map normal_name (listed_texts text))
+
+-- an edit of several names: these extras or groups, which are any texts
+abbrev pub names_change : NameChange → List ℕ → Result (NamesEdit × List (List ℕ)) LineRefusal
+names_change change bytes = do
+  names ← names_argument bytes
+  Ok (names_edit.Change change, names)
+
+-- the normal forms of these texts, where each is a name
+abbrev pub each_name : List (List ℕ) → Result (List (List ℕ)) LineRefusal
+each_name texts =
+    if list_all is_name texts then Ok (map normal_name texts) else Err line.Name
+
+-- the policy of each of these names
+abbrev pub names_policy : List ℕ → List ℕ → Result (NamesEdit × List (List ℕ)) LineRefusal
+names_policy bytes word = do
+  text ← text_argument bytes
+  word ← text_argument word
+  policy ← policy_argument word
+  names ← each_name (listed_texts text)
+  Ok (names_edit.Policy policy, names)
 
 -- ---- changes of an environment
 

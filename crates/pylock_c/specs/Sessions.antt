@@ -5,13 +5,12 @@ use Rattle.std.specs.Result.{result_map_both}
 use Rattle.pytext.specs.Results.{◌>>=◌}
 use Rattle.pylock_command.specs.declared.form.Form.{Form}
 use Rattle.pylock_core.specs.Session.Judgement.{Marked, SessionValue, all_numbers, index_of}
-use Rattle.pylock_core.specs.Session.Judgement.{readers, touched, verdicts_of}
-use Rattle.pylock_core.specs.Session.Names.{after_names, names_key}
-use Rattle.pylock_core.specs.Session.State.{State}
+use Rattle.pylock_core.specs.Session.Judgement.{numbers_where, readers, touched, verdicts_of}
+use Rattle.pylock_core.specs.Session.Names.{names_key}
+use Rattle.pylock_core.specs.Session.State.{State, after_names, is_among, with_policies}
 use Rattle.pylock_core.specs.Session.Steps.{answer}
 use Rattle.pylock_core.specs.declared.answer.Answer.{Answer}
 use Rattle.pylock_core.specs.declared.answer.Answer.TheVariants as answers
-use Rattle.pylock_core.specs.declared.edit.NameChange.{NameChange}
 use Rattle.pylock_documents.specs.Documents.{fault_detail}
 use Rattle.pylock_program.specs.Show.{view_shown}
 use Rattle.pylock_run.specs.Line.Refusal.{edit_refusal}
@@ -24,6 +23,8 @@ use Rattle.pylock_run.specs.declared.line.commands.Command.TheVariants as comman
 use Rattle.pylock_run.specs.declared.line.refusal.LineRefusal.{LineRefusal}
 use Rattle.pylock_run.specs.declared.report.opening.OpenError.{OpenError}
 use Rattle.pylock_c.specs.Refusal.{line_refusal, refuse_as}
+use Rattle.pylock_c.specs.declared.edits.NamesEdit.{NamesEdit}
+use Rattle.pylock_c.specs.declared.edits.NamesEdit.TheVariants as names_edit
 use Rattle.pylock_c.specs.declared.object.Object.{Object}
 use Rattle.pylock_c.specs.declared.object.Object.TheVariants as kind
 use Rattle.pylock_c.specs.declared.refusal.Refusal.{Refusal}
@@ -51,23 +52,27 @@ started read =
 
 -- ---- edits
 
+-- the session in a state after an edit that judged these numbers, and how many they are
+abbrev pub judged_at : State → List ℕ → SessionValue × ℕ
+judged_at state numbers = (session_at state numbers, length numbers)
+
 -- the session after a command, and how many judgements that made
 abbrev pub session_after : SessionValue → Command → Result (SessionValue × ℕ) LineRefusal
 session_after session command.Show = Ok (session, 0)
 session_after session (command.Edit edit) = do
   state ← after_command session.state (command.Edit edit)
-  Ok (session_at state (touched edit session.state), length (touched edit session.state))
+  Ok (judged_at state (touched edit session.state))
 
--- the session after the changes for these names, which are one edit, and how many judgements that
--- made
-abbrev pub session_after_names : NameChange → SessionValue → List (List ℕ)
+-- the same after an edit of these names
+abbrev pub session_after_names : NamesEdit → List (List ℕ) → SessionValue
     → Result (SessionValue × ℕ) LineRefusal
-session_after_names change session names = do
+session_after_names (names_edit.Change change) names session = do
   state ← result_map_both (λ state. state) edit_refusal (after_names change names session.state)
-  Ok (
-    session_at state (readers (Marked (names_key change)) session.state),
-    length (readers (Marked (names_key change)) session.state),
-  )
+  Ok (judged_at state (readers (Marked (names_key change)) session.state))
+session_after_names (names_edit.Policy policy) names session =
+    Ok (judged_at
+    (record session.state { policies = with_policies session.state.policies names policy })
+    (numbers_where (λ entry. is_among names entry.name) session.state.entries))
 
 -- what a slot keeps after a command that was read; a slot with no session is refused first
 abbrev pub obeyed_in : Result Command LineRefusal → Option Object
@@ -77,12 +82,12 @@ obeyed_in read object = do
   after ← refuse_as line_refusal (read >>= session_after session)
   Ok (Some (kind.Session after.0), after.1)
 
--- the same after the changes for names that were read
-abbrev pub edited_in : NameChange → Result (List (List ℕ)) LineRefusal → Option Object
+-- the same after an edit of names that was read
+abbrev pub edited_in : Result (NamesEdit × List (List ℕ)) LineRefusal → Option Object
     → Result (Option Object × ℕ) Refusal
-edited_in change read object = do
+edited_in read object = do
   session ← session_in object
-  after ← refuse_as line_refusal (read >>= session_after_names change session)
+  after ← refuse_as line_refusal (read >>= λ edit. session_after_names edit.0 edit.1 session)
   Ok (Some (kind.Session after.0), after.1)
 
 -- an edit of what a slot keeps: the object after it and its judgements, or the refusal, which

@@ -1,7 +1,7 @@
 -- The text of the environment of a target (PEP 425, PEP 508).
 use Rattle.std.specs.Prelude.{ℕ, List, Result, Ok}
 use Rattle.pytext.specs.Results.{◌>>=◌}
-use Rattle.pylock_readers.specs.Target.{target_text}
+use Rattle.pylock_documents.specs.Environment.{target_text}
 use Rattle.pywheel_core.specs.Target.Reading.{target_of}
 use Rattle.pylock_c.specs.Refusal.{refuse_as, target_refusal}
 use Rattle.pylock_c.specs.Text.{text_of}

@@ -1,9 +1,9 @@
 //! The changes and the commands that C gives, by their texts.
 
 ghost use Rattle.std.specs.Prelude.{◌≡◌, IfOk, Result, map};
-ghost use Rattle.std.specs.List.{slice_split};
+ghost use Rattle.std.specs.List.{list_all, slice_split};
 ghost use Rattle.pytext.specs.Agreement.{Gives};
-ghost use Rattle.pyver_core.specs.Name.{normal_name};
+ghost use Rattle.pyver_core.specs.Name.{is_name, normal_name};
 ghost use Rattle.pymark_core.specs.declared.change.Change.{Change as ChangeValue};
 ghost use Rattle.pymark_core.specs.declared.change.Change.TheVariants as change;
 ghost use Rattle.pylock_core.specs.declared.edit.Edit.TheVariants as edit;
@@ -11,12 +11,13 @@ ghost use Rattle.pylock_run.specs.Line.{is_lf};
 ghost use Rattle.pylock_run.specs.declared.line.refusal.LineRefusal.{LineRefusal as RefusalValue};
 ghost use Rattle.pylock_run.specs.declared.line.refusal.LineRefusal.TheVariants.{Memory};
 ghost use Rattle.pylock_c.specs.Edits.{change_command, entry_command, named_change, policy_command};
-ghost use Rattle.pylock_c.specs.Edits.{listed_texts, names_argument, set_change, tags_command};
+ghost use Rattle.pylock_c.specs.Edits.{listed_texts, names_argument, names_change, names_policy};
+ghost use Rattle.pylock_c.specs.Edits.{set_change, tags_command};
 ghost use Rattle.pylock_c.specs.Edits.{target_argument, target_command, unset_change};
 ghost use Rattle.pywheel_core.specs.Target.Reading.{target_of};
 
 use crate::text::text;
-use pylock_core::{Edit, Entry};
+use pylock_core::{Edit, Entry, NameChange, Policy};
 use pylock_run::{Command, LineRefusal, policy_argument, variable_argument};
 use pymark_core::Change;
 use pytext::Text;
@@ -64,11 +65,61 @@ pub(crate) fn drop_group_change(alloc: Global, name: &[u8]) -> Result<Change, Li
 }
 
 /// The normal forms of the names of a list.
-pub(crate) fn names_argument(alloc: Global, bytes: &[u8]) -> Result<Vec<NormalName>, LineRefusal>
+fn names_argument(alloc: Global, bytes: &[u8]) -> Result<Vec<NormalName>, LineRefusal>
     ensures { Gives Memory (λ names. names.items) result (names_argument bytes.now) }
 {
     let texts = listed_texts(alloc, text(bytes)?)?;
     Ok(normal_names(alloc, &texts)?)
+}
+
+/// What an edit does with several names.
+#[derive(Clone, Copy)]
+pub(crate) enum NamesEdit {
+    /// It changes the extras or the groups that are asked for.
+    Change(NameChange),
+    /// It gives each the policy.
+    Policy(Policy),
+}
+
+/// The change for each of the names of a list.
+pub(crate) fn names_change(
+    alloc: Global,
+    change: NameChange,
+    bytes: &[u8],
+) -> Result<(NamesEdit, Vec<NormalName>), LineRefusal>
+    ensures { Gives Memory (λ read. (read.0, read.1.items)) result
+        (names_change change bytes.now) }
+{
+    Ok((NamesEdit::Change(change), names_argument(alloc, bytes)?))
+}
+
+/// The policy of each of the names of a list.
+pub(crate) fn names_policy(
+    alloc: Global,
+    bytes: &[u8],
+    word: &[u8],
+) -> Result<(NamesEdit, Vec<NormalName>), LineRefusal>
+    ensures { Gives Memory (λ read. (read.0, read.1.items)) result
+        (names_policy bytes.now word.now) }
+{
+    let names = text(bytes)?;
+    let policy = policy_argument(text(word)?)?;
+    let texts = listed_texts(alloc, names)?;
+    if !are_names(&texts) {
+        return Err(LineRefusal::Name);
+    }
+    Ok((NamesEdit::Policy(policy), normal_names(alloc, &texts)?))
+}
+
+fn are_names(texts: &[&str]) -> bool
+    ensures { result ≡ list_all is_name (map (λ text. text.now) texts.now) }
+{
+    for text in texts {
+        if !is_name(text) {
+            return false;
+        }
+    }
+    true
 }
 
 fn normal_names(alloc: Global, texts: &[&str]) -> Result<Vec<NormalName>, AllocError>

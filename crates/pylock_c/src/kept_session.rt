@@ -5,7 +5,8 @@ ghost use Rattle.pytext.specs.Agreement.{Gives};
 ghost use Rattle.pylock_run.specs.declared.line.refusal.LineRefusal.TheVariants as line;
 ghost use Rattle.pylock_c.specs.Sessions.{session_after, session_after_names};
 
-use pylock_core::{NameChange, Session};
+use crate::edits::NamesEdit;
+use pylock_core::{Edit, Session};
 use pylock_run::{Command, LineRefusal};
 use pyver_core::NormalName;
 use std::alloc::{AllocError, Global};
@@ -63,16 +64,20 @@ impl KeptSession {
         }
     }
 
-    /// Makes the changes for these names as one edit, and answers how many judgements that made.
+    /// Edits these names, and answers how many judgements that made.
     pub(crate) fn edit_names(
         &mut self,
-        change: NameChange,
+        edit: NamesEdit,
         names: Vec<NormalName>,
     ) -> Result<u64, LineRefusal>
         ensures ok { Gives line.Memory (λ judgements. (self.new, judgements)) result
-            (session_after_names change self.old names.items) }
+            (session_after_names edit names.items self.old) }
         ensures err { OnErr result (self.new ≡ self.old) }
     {
-        Ok(self.session.edit_names(change, names)?)
+        let edit = match edit {
+            NamesEdit::Change(change) => Edit::Names(change, names),
+            NamesEdit::Policy(policy) => Edit::Policies(names, policy),
+        };
+        Ok(self.session.edit(edit)?)
     }
 }

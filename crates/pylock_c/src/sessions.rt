@@ -14,11 +14,13 @@ ghost use Rattle.pylock_run.specs.declared.line.refusal.LineRefusal.TheVariants 
 ghost use Rattle.pylock_run.specs.declared.report.opening.OpenError.TheVariants as unopened;
 ghost use Rattle.pylock_c.specs.Answer.{Tells};
 ghost use Rattle.pylock_c.specs.Edits.{change_command, entry_command, named_change};
-ghost use Rattle.pylock_c.specs.Edits.{names_argument, policy_command, set_change, tags_command};
+ghost use Rattle.pylock_c.specs.Edits.{names_change, names_policy, policy_command, set_change};
+ghost use Rattle.pylock_c.specs.Edits.{tags_command};
 ghost use Rattle.pylock_c.specs.Edits.{target_command, unset_change};
 ghost use Rattle.pylock_c.specs.Opening.{Opens};
 ghost use Rattle.pylock_c.specs.Sessions.{Counts, edited_in, obeyed_in, started};
 ghost use Rattle.pylock_c.specs.Slot.{object};
+ghost use Rattle.pylock_c.specs.declared.edits.NamesEdit.{NamesEdit as NamesValue};
 ghost use Rattle.pylock_c.specs.declared.object.Object.{Object as Kind};
 ghost use Rattle.pylock_c.specs.declared.refusal.Refusal.{Refusal as Refused};
 
@@ -26,9 +28,9 @@ mod standing;
 
 use crate::answer::OK;
 use crate::edits::{
-    add_command, add_extra_change, add_group_change, change_command, drop_extra_change,
-    drop_group_change, names_argument, policy_command, put_command, set_change, tags_command,
-    target_command, unset_change,
+    NamesEdit, add_command, add_extra_change, add_group_change, change_command, drop_extra_change,
+    drop_group_change, names_change, names_policy, policy_command, put_command, set_change,
+    tags_command, target_command, unset_change,
 };
 use crate::kept_session::KeptSession;
 use crate::object::Object;
@@ -114,40 +116,41 @@ fn obey_slot(
     tell_judged(outcome, judged)
 }
 
-/// Makes the changes for the names in the session that is kept. Where none is, the names aren't
-/// looked at.
+/// Edits the names in the session that is kept. Where none is, the names aren't looked at.
 fn edit_names_in(
     object: &mut Object,
-    change: NameChange,
-    names: Result<Vec<NormalName>, LineRefusal>,
+    read: Result<(NamesEdit, Vec<NormalName>), LineRefusal>,
 ) -> Result<u64, Refusal>
-    ensures { (definition : Result (List (List ℕ)) RefusalValue)
-        → Gives line.Memory (λ names. names.items) names definition
-        → Counts (edited_in change definition (Some object.old)) (Some object.old)
-        (Some object.new) result }
+    ensures { (definition : Result (NamesValue × List (List ℕ)) RefusalValue)
+        → Gives line.Memory (λ read. (read.0, read.1.items)) read definition
+        → Counts (edited_in definition (Some object.old)) (Some object.old) (Some object.new)
+        result }
 {
     match object {
-        Object::Session(session) => Ok(session.edit_names(change, names?)?),
+        Object::Session(session) => {
+            let (edit, names) = read?;
+            Ok(session.edit_names(edit, names)?)
+        }
         _ => Err(Refusal::Empty),
     }
 }
 
-/// Makes the changes for the names in the session of a slot, as one edit, and answers the code.
+/// Edits the names in the session of a slot, as one edit, and answers the code.
 fn edit_names_slot(
     alloc: Global,
     slot: &mut Slot,
-    change: NameChange,
-    names: &[u8],
+    read: Result<(NamesEdit, Vec<NormalName>), LineRefusal>,
     judged: &mut u64,
 ) -> i32
-    ensures { Tells (edited_in change (names_argument names.now) (object slot.old))
-        (object slot.old, judged.old) (object slot.new, judged.new) result }
+    ensures { (definition : Result (NamesValue × List (List ℕ)) RefusalValue)
+        → Gives line.Memory (λ read. (read.0, read.1.items)) read definition
+        → Tells (edited_in definition (object slot.old)) (object slot.old, judged.old)
+        (object slot.new, judged.new) result }
 {
-    let names = names_argument(alloc, names);
     let Some(mut object) = slot.take(alloc) else {
         return Refusal::Empty.number();
     };
-    let outcome = edit_names_in(&mut object, change, names);
+    let outcome = edit_names_in(&mut object, read);
     slot.put(alloc, Some(object));
     tell_judged(outcome, judged)
 }
@@ -252,10 +255,12 @@ pub extern "C" fn pylock_session_add_extras(
     names: &[u8],
     judged: &mut u64,
 ) -> i32
-    ensures { Tells (edited_in name_change.AddExtra (names_argument names.now) (object slot.old))
+    ensures { Tells
+        (edited_in (names_change name_change.AddExtra names.now) (object slot.old))
         (object slot.old, judged.old) (object slot.new, judged.new) result }
 {
-    edit_names_slot(alloc, slot, NameChange::AddExtra, names, judged)
+    let read = names_change(alloc, NameChange::AddExtra, names);
+    edit_names_slot(alloc, slot, read, judged)
 }
 
 /// Asks for extras no more.
@@ -266,10 +271,12 @@ pub extern "C" fn pylock_session_drop_extras(
     names: &[u8],
     judged: &mut u64,
 ) -> i32
-    ensures { Tells (edited_in name_change.DropExtra (names_argument names.now) (object slot.old))
+    ensures { Tells
+        (edited_in (names_change name_change.DropExtra names.now) (object slot.old))
         (object slot.old, judged.old) (object slot.new, judged.new) result }
 {
-    edit_names_slot(alloc, slot, NameChange::DropExtra, names, judged)
+    let read = names_change(alloc, NameChange::DropExtra, names);
+    edit_names_slot(alloc, slot, read, judged)
 }
 
 /// Asks for dependency groups.
@@ -280,10 +287,12 @@ pub extern "C" fn pylock_session_add_groups(
     names: &[u8],
     judged: &mut u64,
 ) -> i32
-    ensures { Tells (edited_in name_change.AddGroup (names_argument names.now) (object slot.old))
+    ensures { Tells
+        (edited_in (names_change name_change.AddGroup names.now) (object slot.old))
         (object slot.old, judged.old) (object slot.new, judged.new) result }
 {
-    edit_names_slot(alloc, slot, NameChange::AddGroup, names, judged)
+    let read = names_change(alloc, NameChange::AddGroup, names);
+    edit_names_slot(alloc, slot, read, judged)
 }
 
 /// Asks for dependency groups no more.
@@ -294,10 +303,12 @@ pub extern "C" fn pylock_session_drop_groups(
     names: &[u8],
     judged: &mut u64,
 ) -> i32
-    ensures { Tells (edited_in name_change.DropGroup (names_argument names.now) (object slot.old))
+    ensures { Tells
+        (edited_in (names_change name_change.DropGroup names.now) (object slot.old))
         (object slot.old, judged.old) (object slot.new, judged.new) result }
 {
-    edit_names_slot(alloc, slot, NameChange::DropGroup, names, judged)
+    let read = names_change(alloc, NameChange::DropGroup, names);
+    edit_names_slot(alloc, slot, read, judged)
 }
 
 /// Puts these tags in place of those that were there.
@@ -385,6 +396,22 @@ pub extern "C" fn pylock_session_policy(
         (object slot.old, judged.old) (object slot.new, judged.new) result }
 {
     obey_slot(alloc, slot, policy_command(alloc, name, policy), judged)
+}
+
+/// Says which files packages may be installed from.
+#[unsafe(no_mangle)]
+pub extern "C" fn pylock_session_policies(
+    alloc: Global,
+    slot: &mut Slot,
+    names: &[u8],
+    policy: &[u8],
+    judged: &mut u64,
+) -> i32
+    ensures { Tells (edited_in (names_policy names.now policy.now) (object slot.old))
+        (object slot.old, judged.old) (object slot.new, judged.new) result }
+{
+    let read = names_policy(alloc, names, policy);
+    edit_names_slot(alloc, slot, read, judged)
 }
 
 /// Makes the edit that an edit line says.

@@ -10,7 +10,7 @@ ghost use Rattle.pylock_c.specs.declared.refusal.Refusal.TheVariants.{Memory};
 use crate::refusal::Refusal;
 use crate::slot::Slot;
 use crate::text::{keep_text, text};
-use pylock_core::environment_text;
+use pylock_documents::environment_text;
 use pywheel_core::Target;
 use std::alloc::Global;
 

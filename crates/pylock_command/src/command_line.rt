@@ -57,8 +57,8 @@ impl From<clap::Error> for CommandError {
 /// its sources and the logic that it is proved in, as `rt version` names that.
 ///
 /// No source can hold the sum of itself. So 64 characters stand in its place, and where a build is
-/// kept `tools/built stamp` writes the sum over them. No contract speaks of this text.
-const VERSION: &str = "1.7.0
+/// kept `tools/make/built stamp` writes the sum over them. No contract speaks of this text.
+const VERSION: &str = "1.8.0
 sources (not told: rt built it; ./pylock and tools/release tell the sum), \
 proved in logic dac8208d650f15bf";
 

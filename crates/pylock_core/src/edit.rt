@@ -15,6 +15,10 @@ use std::alloc::AllocError;
 pub enum Edit {
     /// Changes the environment: a variable, an extra or a group.
     Environment(Change),
+    /// Changes the environment for each of these extras or groups, one after another. What reads
+    /// the extras, or the groups, is judged once, however many names there are. The first name
+    /// that is refused refuses the edit.
+    Names(NameChange, Vec<NormalName>),
     /// Puts these tags in place of those that were there.
     Tags(TagList),
     /// Adds the entry after all others, with the next number.
@@ -25,6 +29,9 @@ pub enum Edit {
     Del(u32),
     /// Gives the name the policy.
     Policy(NormalName, Policy),
+    /// Gives each of these names the policy. The entries of a name are judged once, however often
+    /// it is among them.
+    Policies(Vec<NormalName>, Policy),
 }
 
 /// What becomes of a name among the extras or the groups that are asked for.

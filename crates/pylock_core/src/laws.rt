@@ -1,6 +1,6 @@
 //! Laws of the definitions alone: each function's contract is a law, and its body is empty.
 
-ghost use Rattle.std.specs.Prelude.{◌≡◌, ℕ, List, Option, Ok, Err, true};
+ghost use Rattle.std.specs.Prelude.{◌≡◌, ℕ, List, Option, Err, true};
 ghost use Rattle.std.specs.List.{All};
 ghost use Rattle.pyver_core.specs.declared.set.specifier.Specifier.{Specifier};
 ghost use Rattle.pymark_core.specs.Environment.{EnvironmentValue, variable_in};
@@ -12,16 +12,15 @@ ghost use Rattle.pylock_core.specs.Session.Fates.{explained_answer};
 ghost use Rattle.pylock_core.specs.Session.Judgement.{AgreeAtKey, IndexKey, entry_reads};
 ghost use Rattle.pylock_core.specs.Session.Judgement.{head_reads, readers, touched, verdict_of};
 ghost use Rattle.pylock_core.specs.Session.Picks.{IsFaultIn, IsPickAmong};
-ghost use Rattle.pylock_core.specs.Session.State.{NumbersRise, Rises, State, apply, policy_of};
+ghost use Rattle.pylock_core.specs.Session.State.{NumbersRise, Rises, State, after_edits, apply};
+ghost use Rattle.pylock_core.specs.Session.State.{in_turn};
 ghost use Rattle.pylock_core.specs.Session.Steps.{answer, head_fault, python_check};
 ghost use Rattle.pylock_core.specs.declared.answer.Answer.TheVariants.{Plan, Fault};
 ghost use Rattle.pylock_core.specs.declared.answer.FaultCode.{FaultCode};
 ghost use Rattle.pylock_core.specs.declared.answer.Pick.{Pick};
 ghost use Rattle.pylock_core.specs.declared.edit.Edit.{Edit};
-ghost use Rattle.pylock_core.specs.declared.edit.Edit.TheVariants as edit;
 ghost use Rattle.pylock_core.specs.declared.edit.EditError.TheVariants.{Memory};
 ghost use Rattle.pylock_core.specs.declared.edit.Policy.{Policy};
-ghost use Rattle.pylock_core.specs.declared.edit.Policy.TheVariants.{Any};
 
 use pymark_core::laws::marker_reads;
 use pywheel_core::laws::one_best_wheel;
@@ -86,12 +85,11 @@ pub fn answers_are_never_out_of_memory()
     ensures { (edit : Edit) (state : State) → apply edit state ≡ Err Memory → ⊥ }
 {}
 
-/// An edit that gives a name the policy that it has, if that is no `Any`, changes nothing.
-#[tactic(auto, using(crate::proofs::Lemmas::Tables::Names::policy_again))]
-pub fn same_policy_changes_nothing()
-    ensures { (name : List ℕ) (policy : Policy) (state : State) → (policy ≡ Any → ⊥)
-        → policy_of state.policies name ≡ policy
-        → apply (edit.Policy name policy) state ≡ Ok state }
+/// An edit of several names makes of a state what the edits of each of them make of it, one after
+/// another, up to the first that is refused.
+#[tactic(auto, using(crate::proofs::Lemmas::Editing::InTurn::made_in_turn))]
+pub fn names_are_edited_in_turn()
+    ensures { (edit : Edit) (state : State) → apply edit state ≡ after_edits (in_turn edit) state }
 {}
 
 /// What becomes of each entry gives the answer: the head's fault; else the first fault of step 5

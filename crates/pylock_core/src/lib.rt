@@ -39,8 +39,7 @@ pub use fate::Fate;
 pub use picked::{NamedSource, PickedSource, sources};
 pub use pylock_readers::{
     Archive, Directory, DistributionFile, Entry, EntryError, EntryKey, EnvError, EnvironmentInput,
-    Head, HeadKey, HeadNames, Lock, LockError, Sdist, Vcs, WheelFile, environment_text,
-    read_environment,
+    Head, HeadKey, HeadNames, Lock, LockError, Sdist, Vcs, WheelFile, read_environment,
 };
 pub use session::Session;
 pub use words::{directory_word, fault_word, policy_word, verdict_word};

@@ -10,28 +10,24 @@ pub(crate) mod tables;
 
 ghost use Rattle.std.specs.Prelude.{◌≡◌, Ok, Err, IfOk, IfErr, OnOk, IsTrue, length};
 ghost use Rattle.std.specs.Option.{option_copied};
-ghost use Rattle.pylock_core.specs.Session.Judgement.{Marked, all_numbers, index_of, readers};
-ghost use Rattle.pylock_core.specs.Session.Judgement.{touched, verdicts_of};
-ghost use Rattle.pylock_core.specs.Session.Names.{after_names, names_key};
+ghost use Rattle.pylock_core.specs.Session.Judgement.{all_numbers, index_of, touched, verdicts_of};
 ghost use Rattle.pylock_core.specs.Session.State.{NumbersRise, apply, entry_at, first, in_rows};
-ghost use Rattle.pylock_core.specs.Session.State.{policy_of, takes_memory};
+ghost use Rattle.pylock_core.specs.Session.State.{takes_memory};
 ghost use Rattle.pylock_core.specs.Session.Fates.{fate_at, fates};
 ghost use Rattle.pylock_core.specs.Session.Steps.{answer, head_fault};
 ghost use Rattle.pylock_core.specs.declared.edit.EditError.{EditError};
 ghost use Rattle.pylock_core.specs.declared.edit.EditError.TheVariants.{Memory};
 
 use crate::answer::{Answer, FaultCode};
-use crate::edit::{Edit, EditError, NameChange, Policy};
+use crate::edit::{Edit, EditError};
 use crate::fate::Fate;
 use crate::session::answering::fates::{fate_at, fates};
 use crate::session::answering::steps::answer;
 use crate::session::editing::entries::entry_in;
 use crate::session::parts::Parts;
-use crate::session::start_and_edit::{edit_names_of, edit_parts, start_parts};
-use crate::session::tables::names::policy_named;
+use crate::session::start_and_edit::{edit_parts, start_parts};
 use pylock_readers::{Entry, Head, Lock};
 use pymark_core::Environment;
-use pyver_core::NormalName;
 use pywheel_core::TagList;
 use std::alloc::{AllocError, Global};
 use std::marker::Model;
@@ -105,7 +101,7 @@ impl Session {
     ///
     /// Takes memory for the verdicts that it makes and the numbers of their entries, for a table of
     /// what was found of conditions where it judges many, and for what it brings: the text of a
-    /// variable, a name, the row and the places of an entry; with an entry that comes in now and
+    /// variable, names, the row and the places of an entry; with an entry that comes in now and
     /// then for the numbers of all tag sets, so that those that no wheel has any more are let go.
     /// `Del` takes none.
     pub fn edit(&mut self, edit: Edit) -> Result<u64, EditError>
@@ -121,39 +117,6 @@ impl Session {
         ensures rising { NumbersRise self.new.state }
     {
         Ok(edit_parts(&mut self.parts, edit)?)
-    }
-
-    /// Asks for all of these extras or groups, or for none of them any more, as one edit, and
-    /// answers how many judgements it made: one for what reads the extras, or the groups, however
-    /// many names there are. The state is that after the edits for these names one after another.
-    /// The first of them that would be refused is the refusal, and then all stays.
-    ///
-    /// Takes the memory of one such edit, and for the names.
-    pub fn edit_names(
-        &mut self,
-        change: NameChange,
-        names: Vec<NormalName>,
-    ) -> Result<u64, EditError>
-        ensures accepted { OnOk result
-            (after_names change names.items self.old.state ≡ Ok self.new.state) }
-        ensures refused { IfErr result (λ error. (error ≡ Memory → ⊥)
-            → after_names change names.items self.old.state ≡ Err error) }
-        ensures kept { IfErr result (λ error. self.new ≡ self.old) }
-        ensures judged { OnOk result
-            (self.new.judged ≡ readers (Marked (names_key change)) self.old.state) }
-        ensures count { IfOk result (λ judgements. judgements ≡ length self.new.judged) }
-        ensures verdicts { self.new.verdicts ≡ verdicts_of self.new.state }
-        ensures index { self.new.index ≡ index_of self.new.state }
-        ensures rising { NumbersRise self.new.state }
-    {
-        Ok(edit_names_of(&mut self.parts, change, names)?)
-    }
-
-    /// The policy of the name, in normal form: `Any` where no edit gave it one. It takes no memory.
-    pub fn policy(&self, name: &NormalName) -> Policy
-        ensures { result ≡ policy_of self.now.state.policies name.now }
-    {
-        policy_named(&self.parts.names, name.as_str())
     }
 
     /// The answer of the installation steps (PEP 751) on the state as it stands. Changes nothing.

@@ -19,7 +19,7 @@ use Rattle.pylock_compare.specs.Partners.{are_alone, where_true}
 use Rattle.pylock_compare.specs.Rows.{Row, values_at}
 use Rattle.pylock_compare.specs.Texts.{Texts, are_alike}
 use Rattle.pylock_readers.specs.Entry.{EntryValue}
-use Rattle.pylock_core.specs.Session.Picks.{SourceValue, OfVcs, OfDirectory, OfArchive, OfWheel, OfSdist, source_in}
+use Rattle.pylock_core.specs.Session.Picks.{SourceValue, OfVcs, OfDirectory, OfArchive, OfWheel, OfSdist, source_in, source_word}
 use Rattle.pylock_core.specs.Session.State.{State, entry_at}
 use Rattle.pylock_core.specs.declared.answer.Answer.{Answer}
 use Rattle.pylock_core.specs.declared.answer.Answer.TheVariants.{Plan, Fault}
@@ -32,7 +32,7 @@ use Rattle.pylock_diff.specs.Inner.Picked.{picked_entries, picked_entry, picked_
 use Rattle.pylock_diff.specs.Item.{ItemValue, pick_item, pick_items}
 use Rattle.pylock_diff.specs.Keys.{are_same_values, entry_key_changes, key_changes, placed_rows}
 use Rattle.pylock_diff.specs.Partners.{item_key, row_texts, without_partners}
-use Rattle.pylock_diff.specs.Picks.{kind_word, pick_fields, source_members, source_row, version_row}
+use Rattle.pylock_diff.specs.Picks.{pick_fields, source_members, source_row, version_row}
 use Rattle.pylock_diff.specs.SamePlan.{PickTheSame, PickValue, numberless, pick_value, pick_values}
 use Rattle.pylock_diff.proofs.CountLemmas.{counts_permute, permuted_count}
 use Rattle.pylock_diff.proofs.Same.Lists.{at_append, back_none, front_none, none_under, under_none, untold}
@@ -171,27 +171,19 @@ alone_seen ps qs = (λ i. where_true (are_alone (keys_of_items ps i) (keys_of_it
 
 -- ---- the keys of a pick
 
-no_version : (s : SourceValue) → bytes_eq (kind_word s) (codes "version") ≡ false
-no_version (OfVcs vcs) = refl
-no_version (OfDirectory directory) = by directory.editable
-  where
-    by : (b : Bool) → bytes_eq (cond b (codes "editable") (codes "directory")) (codes "version") ≡ false
-    by true = refl
-    by false = refl
-no_version (OfArchive archive) = refl
-no_version (OfWheel file) = refl
-no_version (OfSdist file) = refl
+by_word : (P : List ℕ → Type 0) → P (codes "vcs") → P (codes "directory") → P (codes "editable") → P (codes "archive") → P (codes "wheel") → P (codes "sdist")
+    → (s : SourceValue) → P (source_word s)
+by_word P vcs directory editable archive wheel sdist (OfVcs value) = vcs
+by_word P vcs directory editable archive wheel sdist (OfDirectory value) = elim value.editable as (λ b. P (cond b (codes "editable") (codes "directory"))) [ true ↦ editable | false ↦ directory ]
+by_word P vcs directory editable archive wheel sdist (OfArchive value) = archive
+by_word P vcs directory editable archive wheel sdist (OfWheel value) = wheel
+by_word P vcs directory editable archive wheel sdist (OfSdist value) = sdist
 
-version_not : (s : SourceValue) → bytes_eq (codes "version") (kind_word s) ≡ false
-version_not (OfVcs vcs) = refl
-version_not (OfDirectory directory) = by directory.editable
-  where
-    by : (b : Bool) → bytes_eq (codes "version") (cond b (codes "editable") (codes "directory")) ≡ false
-    by true = refl
-    by false = refl
-version_not (OfArchive archive) = refl
-version_not (OfWheel file) = refl
-version_not (OfSdist file) = refl
+no_version : (s : SourceValue) → bytes_eq (source_word s) (codes "version") ≡ false
+no_version = by_word (λ word. bytes_eq word (codes "version") ≡ false) refl refl refl refl refl refl
+
+version_not : (s : SourceValue) → bytes_eq (codes "version") (source_word s) ≡ false
+version_not = by_word (λ word. bytes_eq (codes "version") word ≡ false) refl refl refl refl refl refl
 
 abbrev source_code : SourceValue → List ℕ
 source_code s = code (table (source_members s))
@@ -201,13 +193,13 @@ none_at_kind key None apart = refl
 none_at_kind key (Some t) apart = ap (λ b. map (λ (r : Row (List ℕ)). r.1) (cond b ((codes "version", code (string t)) ∷ []) [])) apart
 
 -- what a pick has at a key that is no version
-at_kind : (s : SourceValue) (p : Picked) → values_at (kind_word s) (pick_fields p.0 p.1) ≡ map (λ (r : Row (List ℕ)). r.1) (cond (bytes_eq (kind_word s) (kind_word p.1)) (source_row p.1) [])
+at_kind : (s : SourceValue) (p : Picked) → values_at (source_word s) (pick_fields p.0 p.1) ≡ map (λ (r : Row (List ℕ)). r.1) (cond (bytes_eq (source_word s) (source_word p.1)) (source_row p.1) [])
 at_kind s p =
-    at_append (kind_word s) (version_row p.0.version) (source_row p.1)
-    ∙ ap (λ front. front ++ values_at (kind_word s) (source_row p.1)) (none_at_kind (kind_word s) p.0.version (no_version s))
+    at_append (source_word s) (version_row p.0.version) (source_row p.1)
+    ∙ ap (λ front. front ++ values_at (source_word s) (source_row p.1)) (none_at_kind (source_word s) p.0.version (no_version s))
 
-at_own : (p : Picked) → values_at (kind_word p.1) (pick_fields p.0 p.1) ≡ source_code p.1 ∷ []
-at_own p = at_kind p.1 p ∙ ap (λ b. map (λ (r : Row (List ℕ)). r.1) (cond b (source_row p.1) [])) ((bytes_eq-Decides (kind_word p.1) (kind_word p.1)).1 refl)
+at_own : (p : Picked) → values_at (source_word p.1) (pick_fields p.0 p.1) ≡ source_code p.1 ∷ []
+at_own p = at_kind p.1 p ∙ ap (λ b. map (λ (r : Row (List ℕ)). r.1) (cond b (source_row p.1) [])) ((bytes_eq-Decides (source_word p.1) (source_word p.1)).1 refl)
 
 at_version : (p : Picked) → values_at (codes "version") (pick_fields p.0 p.1) ≡ values_at (codes "version") (version_row p.0.version)
 at_version p =
@@ -221,12 +213,12 @@ version_same None (Some w) same = absurd cc
 version_same (Some v) None same = absurd cc
 version_same (Some v) (Some w) same = let text : code (string v) ≡ code (string w) = cc in ap (λ c. (codes "version", c) ∷ []) text
 
-source_same : (s t : SourceValue) → source_code s ∷ [] ≡ map (λ (r : Row (List ℕ)). r.1) (cond (bytes_eq (kind_word s) (kind_word t)) (source_row t) []) → source_row s ≡ source_row t
-source_same s t same = elim (cases_Bool (bytes_eq (kind_word s) (kind_word t))) [
+source_same : (s t : SourceValue) → source_code s ∷ [] ≡ map (λ (r : Row (List ℕ)). r.1) (cond (bytes_eq (source_word s) (source_word t)) (source_row t) []) → source_row s ≡ source_row t
+source_same s t same = elim (cases_Bool (bytes_eq (source_word s) (source_word t))) [
   | inl is ↦ (
       let value = same ∙ ap (λ b. map (λ (r : Row (List ℕ)). r.1) (cond b (source_row t) [])) is in
       let one : source_code s ≡ source_code t = cc in
-      λ i. ((bytes_eq-Decides (kind_word s) (kind_word t)).0 is i, one i) ∷ [])
+      λ i. ((bytes_eq-Decides (source_word s) (source_word t)).0 is i, one i) ∷ [])
   | inr not ↦ (
       let value = same ∙ ap (λ b. map (λ (r : Row (List ℕ)). r.1) (cond b (source_row t) [])) not in
       absurd cc)
@@ -236,7 +228,7 @@ source_same s t same = elim (cases_Bool (bytes_eq (kind_word s) (kind_word t))) 
 same_fields : (p q : Picked) → ((key : List ℕ) → values_at key (pick_fields p.0 p.1) ≡ values_at key (pick_fields q.0 q.1)) → pick_fields p.0 p.1 ≡ pick_fields q.0 q.1
 same_fields p q same =
     let version = version_same p.0.version q.0.version (sym (at_version p) ∙ same (codes "version") ∙ at_version q) in
-    let source = source_same p.1 q.1 (sym (at_own p) ∙ same (kind_word p.1) ∙ at_kind p.1 q) in
+    let source = source_same p.1 q.1 (sym (at_own p) ∙ same (source_word p.1) ∙ at_kind p.1 q) in
     λ i. version i ++ source i
 
 -- ---- where nothing is told
@@ -254,7 +246,7 @@ all_same name os ns none key =
 -- an entry has something at its kind
 something : (q : Picked) (qs : List Picked) → ((key : List ℕ) → [] ≡ values_at key (placed_rows (λ item. item.keys) 0 (map item_of (q ∷ qs)))) → ⊥
 something q qs same =
-    let none : values_at (kind_word q.1) (pick_fields q.0 q.1) ≡ [] = first_none (λ item. item.keys) (item_of q) (map item_of qs) (kind_word q.1) (sym (same (kind_word q.1))) in
+    let none : values_at (source_word q.1) (pick_fields q.0 q.1) ≡ [] = first_none (λ item. item.keys) (item_of q) (map item_of qs) (source_word q.1) (sym (same (source_word q.1))) in
     let some : source_code q.1 ∷ [] ≡ [] = sym (at_own q) ∙ none in
     absurd cc
 

@@ -2,9 +2,11 @@
 use Rattle.std.proofs.Common.{◌≡◌, ◌∙◌, ◌++◌, ◌&&◌, ℕ, Bool, true, false, cond, not, List, [], ◌∷◌, map, Option, None, Some, option_map, refl, sym, ap}
 use Rattle.std.proofs.lemmas.List.{map-append}
 use Rattle.std.specs.List.{filter, flat_map}
+use Rattle.pylock_core.specs.Session.Picks.{SourceValue}
 use Rattle.pylock_core.specs.Session.State.{State}
 use Rattle.pylock_core.specs.declared.answer.Answer.{Answer}
 use Rattle.pylock_core.specs.declared.answer.Answer.TheVariants.{Plan, Fault}
+use Rattle.pylock_places.specs.Shown.{source_text}
 use Rattle.pylock_compare.proofs.OrderLemmas.{in_order-swap}
 use Rattle.pylock_compare.specs.Rows.{Row, in_order, names_of, under_each, values_at}
 use Rattle.pylock_compare.specs.Texts.{are_alike}
@@ -13,13 +15,13 @@ use Rattle.pylock_diff.specs.Changes.{answer_changes, item_changes, lock_changes
 use Rattle.pylock_diff.specs.Codes.{Rows}
 use Rattle.pylock_diff.specs.Compared.{ComparedValue}
 use Rattle.pylock_diff.specs.Conditions.{condition_changes, conditions, conditions_text}
-use Rattle.pylock_diff.specs.Files.{archive_hash_changes, archives_of, file_hash_changes, files_of, hash_changes, hashed_archives, hashed_files, if_both, paths_of, place_change, place_changes, places_text, urls_of}
+use Rattle.pylock_diff.specs.Files.{archives_of, files_of, hash_changes, hashed, hashes_told, if_both, paths_of, place_change, place_changes, places_text, urls_of}
 use Rattle.pylock_diff.specs.Hashes.{Hashed, are_same_sets, hash_text, hashed_changes, value_changes}
 use Rattle.pylock_diff.specs.Head.{HeadKey, first, have_same_value, head_changes, head_rows, is_list_key, key_change, keys_changes, list_keys}
 use Rattle.pylock_diff.specs.Item.{ItemValue, entry_items, pick_items}
 use Rattle.pylock_diff.specs.Keys.{changes_by, entry_key_changes, is_told, are_same_values, key_changes, placed_rows, source_key_changes}
 use Rattle.pylock_diff.specs.Partners.{without_partners}
-use Rattle.pylock_diff.specs.Sources.{file_changes, lone_sources, source_text}
+use Rattle.pylock_diff.specs.Sources.{file_changes, lone_sources}
 use Rattle.pylock_diff.specs.Versions.{version_changes, version_keys, versions_text}
 use Rattle.pylock_diff.specs.declared.change.ChangeKind.TheVariants.{Condition, File, Hash, Head, Place, Version}
 use Rattle.pylock_diff.proofs.Same.Lists.{nothing}
@@ -72,12 +74,15 @@ hashed_silent name old new =
     under_silent (value_changes name old.label new.label) (λ algorithm olds news.
     where_silent (not (are_same_sets olds news)) (change_of Hash name (Some (hash_text old.label algorithm (in_order olds))) (Some (hash_text new.label algorithm (in_order news)))) refl) old.hashes new.hashes
 
+told_silent : (name : List ℕ) (olds news : List (Row SourceValue)) → Silent (under_each (λ file. hashes_told name) olds news)
+told_silent name = under_silent (λ file. hashes_told name) (λ file.
+    both_silent (λ olds news. hashed_changes name (hashed olds) (hashed news)) (λ olds news. hashed_silent name (hashed olds) (hashed news)))
+
 hash_silent : (name : List ℕ) (olds news : List ItemValue) → Silent (hash_changes name olds news)
 hash_silent name olds news =
-    joined_silent (under_each (λ file. file_hash_changes name) (files_of olds) (files_of news))
-    (under_each (λ place. archive_hash_changes name) (archives_of olds) (archives_of news))
-    (under_silent (λ file. file_hash_changes name) (λ file. both_silent (λ olds news. hashed_changes name (hashed_files olds) (hashed_files news)) (λ olds news. hashed_silent name (hashed_files olds) (hashed_files news))) (files_of olds) (files_of news))
-    (under_silent (λ place. archive_hash_changes name) (λ place. both_silent (λ olds news. hashed_changes name (hashed_archives olds) (hashed_archives news)) (λ olds news. hashed_silent name (hashed_archives olds) (hashed_archives news))) (archives_of olds) (archives_of news))
+    joined_silent (under_each (λ file. hashes_told name) (files_of olds) (files_of news))
+    (under_each (λ place. hashes_told name) (archives_of olds) (archives_of news))
+    (told_silent name (files_of olds) (files_of news)) (told_silent name (archives_of olds) (archives_of news))
 
 file_silent : (name : List ℕ) (olds news : List ItemValue) → Silent (file_changes name olds news)
 file_silent name olds news =

@@ -5,11 +5,10 @@ use Rattle.std.specs.Prelude.{ℕ, not, ◌&&◌, ◌++◌, List, [], ◌∷◌,
 use Rattle.std.specs.Prelude.{Some, None, is_some, if◌then◌else◌}
 use Rattle.std.specs.List.{flat_map}
 use Rattle.std.specs.Option.{option_map_or}
-use Rattle.pylock_readers.specs.Entry.{ArchiveValue, FileValue, LocationValue, file_name}
-use Rattle.pylock_readers.specs.Entry.{place_of}
-use Rattle.pylock_core.specs.Session.Picks.{SourceValue, OfVcs, OfDirectory, OfArchive, OfWheel}
-use Rattle.pylock_core.specs.Session.Picks.{OfSdist}
-use Rattle.pylock_places.specs.Shown.{file_label, shown_place}
+use Rattle.pylock_readers.specs.Entry.{LocationValue, place_of}
+use Rattle.pylock_core.specs.Session.Picks.{SourceValue, OfArchive, source_file_name, source_hashes}
+use Rattle.pylock_core.specs.Session.Picks.{source_location}
+use Rattle.pylock_places.specs.Shown.{shown_place, source_label}
 use Rattle.pylock_diff.specs.Change.{ChangeValue, change_of, told_where}
 use Rattle.pylock_diff.specs.Hashes.{Hashed, are_same_sets, hashed_changes}
 use Rattle.pylock_diff.specs.Item.{ItemValue}
@@ -19,55 +18,31 @@ use Rattle.pylock_diff.specs.declared.change.ChangeKind.TheVariants.{Place}
 
 -- ---- what a name has
 
--- a file under its file name, if it has one
-abbrev pub named_file : FileValue → List (Row FileValue)
-named_file file = option_map_or (λ name. (name, file) ∷ []) (file_name file) []
-
-abbrev pub file_in : SourceValue → List (Row FileValue)
-file_in (OfVcs vcs) = []
-file_in (OfDirectory directory) = []
-file_in (OfArchive archive) = []
-file_in (OfWheel file) = named_file file
-file_in (OfSdist file) = named_file file
+-- a wheel or an sdist under its file name, if it has one
+abbrev pub file_in : SourceValue → List (Row SourceValue)
+file_in source = option_map_or (λ name. (name, source) ∷ []) (source_file_name source) []
 
 -- the wheels and sdists of a name, each under its file name
-abbrev pub files_of : List ItemValue → List (Row FileValue)
+abbrev pub files_of : List ItemValue → List (Row SourceValue)
 files_of items = flat_map (λ item. flat_map file_in item.sources) items
 
-abbrev pub archive_in : SourceValue → List (Row ArchiveValue)
-archive_in (OfVcs vcs) = []
-archive_in (OfDirectory directory) = []
-archive_in (OfArchive archive) = (place_of archive.location, archive) ∷ []
-archive_in (OfWheel file) = []
-archive_in (OfSdist file) = []
+abbrev pub archive_in : SourceValue → List (Row SourceValue)
+archive_in (OfArchive archive) = (place_of archive.location, OfArchive archive) ∷ []
+archive_in source = []
 
 -- the archives of a name, each under its place
-abbrev pub archives_of : List ItemValue → List (Row ArchiveValue)
+abbrev pub archives_of : List ItemValue → List (Row SourceValue)
 archives_of items = flat_map (λ item. flat_map archive_in item.sources) items
 
 -- ---- hashes
 
--- how files of one name are shown: as the first of them
-abbrev pub files_label : List FileValue → List ℕ
-files_label [] = []
-files_label (file ∷ files) = file_label file
+-- how those of one name or place are shown: as the first of them
+abbrev pub label_of : List SourceValue → List ℕ
+label_of [] = []
+label_of (source ∷ sources) = source_label source
 
-abbrev pub hashed_files : List FileValue → Hashed
-hashed_files files = record {
-  label = files_label files;
-  hashes = flat_map (λ file. file.hashes) files;
-}
-
--- archives of one place
-abbrev pub archives_label : List ArchiveValue → List ℕ
-archives_label [] = []
-archives_label (archive ∷ archives) = shown_place archive.location
-
-abbrev pub hashed_archives : List ArchiveValue → Hashed
-hashed_archives archives = record {
-  label = archives_label archives;
-  hashes = flat_map (λ archive. archive.hashes) archives;
-}
+abbrev pub hashed : List SourceValue → Hashed
+hashed sources = record { label = label_of sources; hashes = flat_map source_hashes sources }
 
 -- what is told of what stands in both locks
 abbrev pub if_both : {V C : Type 0} → (List V → List V → List C) → (olds news : List V) → List C
@@ -75,19 +50,14 @@ if_both told [] news = []
 if_both told (old ∷ olds) [] = []
 if_both told (old ∷ olds) (new ∷ news) = told (old ∷ olds) (new ∷ news)
 
-abbrev pub file_hash_changes : List ℕ → (olds news : List FileValue) → List ChangeValue
-file_hash_changes name =
-    if_both (λ olds news. hashed_changes name (hashed_files olds) (hashed_files news))
-
-abbrev pub archive_hash_changes : List ℕ → (olds news : List ArchiveValue) → List ChangeValue
-archive_hash_changes name =
-    if_both (λ olds news. hashed_changes name (hashed_archives olds) (hashed_archives news))
+abbrev pub hashes_told : List ℕ → (olds news : List SourceValue) → List ChangeValue
+hashes_told name = if_both (λ olds news. hashed_changes name (hashed olds) (hashed news))
 
 -- the hashes of files by file name, and then of archives by place
 abbrev pub hash_changes : List ℕ → (olds news : List ItemValue) → List ChangeValue
 hash_changes name olds news =
-    under_each (λ file. file_hash_changes name) (files_of olds) (files_of news)
-    ++ under_each (λ place. archive_hash_changes name) (archives_of olds) (archives_of news)
+    under_each (λ file. hashes_told name) (files_of olds) (files_of news)
+    ++ under_each (λ place. hashes_told name) (archives_of olds) (archives_of news)
 
 -- ---- places
 
@@ -95,11 +65,11 @@ hash_changes name olds news =
 abbrev pub if_there : Option (List ℕ) → List (List ℕ)
 if_there text = option_map_or (λ text. text ∷ []) text []
 
-abbrev pub urls_of : List FileValue → List (List ℕ)
-urls_of files = flat_map (λ file. if_there file.location.url) files
+abbrev pub urls_of : List SourceValue → List (List ℕ)
+urls_of files = flat_map (λ file. if_there (source_location file).url) files
 
-abbrev pub paths_of : List FileValue → List (List ℕ)
-paths_of files = flat_map (λ file. if_there file.location.path) files
+abbrev pub paths_of : List SourceValue → List (List ℕ)
+paths_of files = flat_map (λ file. if_there (source_location file).path) files
 
 -- a place by its path alone, and by its URL alone
 abbrev pub by_path : LocationValue → LocationValue
@@ -115,12 +85,12 @@ shown_places location =
     ++ (if is_some location.url then shown_place (by_url location) ∷ [] else [])
 
 -- the places of files of one name, as they are shown
-abbrev pub places_text : List FileValue → List ℕ
+abbrev pub places_text : List SourceValue → List ℕ
 places_text files =
-    joined (codes ",") (in_order (flat_map (λ file. shown_places file.location) files))
+    joined (codes ",") (in_order (flat_map (λ file. shown_places (source_location file)) files))
 
 -- the files of a name have other URLs, or other paths
-abbrev pub place_change : List ℕ → (olds news : List FileValue) → List ChangeValue
+abbrev pub place_change : List ℕ → (olds news : List SourceValue) → List ChangeValue
 place_change name olds news =
     told_where
     (not (are_same_sets (urls_of olds) (urls_of news)

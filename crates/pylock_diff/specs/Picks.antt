@@ -1,13 +1,12 @@
 -- The fields of a pick, as keys with codes.
-use Rattle.std.specs.Prelude.{ℕ, ◌++◌, List, [], ◌∷◌, codes, Option}
+use Rattle.std.specs.Prelude.{ℕ, ◌++◌, List, [], ◌∷◌, codes, Option, if◌then◌else◌}
 use Rattle.std.specs.Option.{option_map_or}
 use Rattle.toml.specs.Data.{Members, no_members, string, table}
 use Rattle.pytoml.specs.Members.{with_member}
-use Rattle.pylock_readers.specs.Entry.{ArchiveValue, DirectoryValue, EntryValue, FileValue}
-use Rattle.pylock_readers.specs.Entry.{LocationValue, VcsValue, file_name}
-use Rattle.pylock_core.specs.Session.Picks.{SourceValue, OfVcs, OfDirectory, OfArchive, OfWheel}
-use Rattle.pylock_core.specs.Session.Picks.{OfSdist}
-use Rattle.pylock_core.specs.Words.{directory_word}
+use Rattle.pylock_readers.specs.Entry.{EntryValue}
+use Rattle.pylock_core.specs.Session.Picks.{SourceValue, is_unhashed, source_commit_id}
+use Rattle.pylock_core.specs.Session.Picks.{source_file_name, source_hashes, source_location}
+use Rattle.pylock_core.specs.Session.Picks.{source_subdirectory, source_vcs_kind, source_word}
 use Rattle.pytoml_code.specs.Code.{code}
 use Rattle.pylock_diff.specs.Codes.{Rows}
 
@@ -15,9 +14,9 @@ use Rattle.pylock_diff.specs.Codes.{Rows}
 abbrev pub put : List ℕ → Option (List ℕ) → Members → Members
 put key text members = option_map_or (λ t. with_member key (string t) members) text members
 
-abbrev pub put_place : LocationValue → Members → Members
-put_place location members =
-    put (codes "path") location.path (put (codes "url") location.url members)
+abbrev pub put_all : List (List ℕ × Option (List ℕ)) → Members
+put_all [] = no_members
+put_all (row ∷ rows) = put row.0 row.1 (put_all rows)
 
 abbrev pub hash_members : List (List ℕ × List ℕ) → Members → Members
 hash_members [] members = members
@@ -27,46 +26,28 @@ hash_members (hash ∷ hashes) members =
 abbrev pub put_hashes : List (List ℕ × List ℕ) → Members → Members
 put_hashes hashes = with_member (codes "hashes") (table (hash_members hashes no_members))
 
+-- the keys of a source that are texts; the name is that of its file
+abbrev pub text_rows : SourceValue → List (List ℕ × Option (List ℕ))
+text_rows source =
+    (codes "type", source_vcs_kind source)
+    ∷ (codes "commit-id", source_commit_id source)
+    ∷ (codes "name", source_file_name source)
+    ∷ (codes "url", (source_location source).url)
+    ∷ (codes "path", (source_location source).path)
+    ∷ (codes "subdirectory", source_subdirectory source)
+    ∷ []
+
+abbrev pub text_members : SourceValue → Members
+text_members source = put_all (text_rows source)
+
 -- a source with all its fields
-abbrev pub vcs_members : VcsValue → Members
-vcs_members vcs =
-    put (codes "subdirectory") vcs.subdirectory
-    (put_place vcs.location
-    (with_member (codes "commit-id") (string vcs.commit_id)
-    (with_member (codes "type") (string vcs.kind) no_members)))
-
-abbrev pub directory_members : DirectoryValue → Members
-directory_members directory =
-    put (codes "subdirectory") directory.subdirectory
-    (with_member (codes "path") (string directory.path) no_members)
-
-abbrev pub archive_members : ArchiveValue → Members
-archive_members archive =
-    put_hashes archive.hashes
-    (put (codes "subdirectory") archive.subdirectory (put_place archive.location no_members))
-
-abbrev pub file_members : FileValue → Members
-file_members file =
-    put_hashes file.hashes
-    (put_place file.location (put (codes "name") (file_name file) no_members))
-
 abbrev pub source_members : SourceValue → Members
-source_members (OfVcs vcs) = vcs_members vcs
-source_members (OfDirectory directory) = directory_members directory
-source_members (OfArchive archive) = archive_members archive
-source_members (OfWheel file) = file_members file
-source_members (OfSdist file) = file_members file
-
--- its kind, as a plan names it
-abbrev pub kind_word : SourceValue → List ℕ
-kind_word (OfVcs vcs) = codes "vcs"
-kind_word (OfDirectory directory) = directory_word directory
-kind_word (OfArchive archive) = codes "archive"
-kind_word (OfWheel file) = codes "wheel"
-kind_word (OfSdist file) = codes "sdist"
+source_members source =
+    if is_unhashed source then text_members source
+    else put_hashes (source_hashes source) (text_members source)
 
 abbrev pub source_row : SourceValue → Rows
-source_row source = (kind_word source, code (table (source_members source))) ∷ []
+source_row source = (source_word source, code (table (source_members source))) ∷ []
 
 abbrev pub version_row : Option (List ℕ) → Rows
 version_row version = option_map_or (λ text. (codes "version", code (string text)) ∷ []) version []

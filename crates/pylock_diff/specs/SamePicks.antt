@@ -56,11 +56,13 @@ pub record AreAlike (one other : State) : Type 0 where
   pub one_rises : NumbersRise one
   pub other_rises : NumbersRise other
 
--- an edit of what the entries are judged by: an extra, a group, a variable, the tags or a policy
+-- an edit of what the entries are judged by: extras, groups, a variable, the tags or a policy
 abbrev pub leaves_entries : Edit → Bool
 leaves_entries (edit.Environment change) = true
+leaves_entries (edit.Names change names) = true
 leaves_entries (edit.Tags tags) = true
 leaves_entries (edit.Policy name policy) = true
+leaves_entries (edit.Policies names policy) = true
 leaves_entries (edit.Add entry) = false
 leaves_entries (edit.Put n entry) = false
 leaves_entries (edit.Del n) = false

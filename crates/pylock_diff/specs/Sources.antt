@@ -1,45 +1,27 @@
 -- The sources of a name that one lock alone has (PEP 751, `packages`).
-use Rattle.std.specs.Prelude.{ℕ, Bool, not, ◌&&◌, ◌++◌, List, [], ◌∷◌, codes, map, filter}
+use Rattle.std.specs.Prelude.{ℕ, Bool, not, ◌&&◌, ◌++◌, List, [], ◌∷◌, map, filter}
 use Rattle.std.specs.Prelude.{Some, None, unwrap_or, if◌then◌else◌}
 use Rattle.std.specs.List.{flat_map, list_any}
-use Rattle.pylock_readers.specs.Entry.{FileValue, file_name, place_of}
-use Rattle.pylock_core.specs.Session.Picks.{SourceValue, OfVcs, OfDirectory, OfArchive, OfWheel}
-use Rattle.pylock_core.specs.Session.Picks.{OfSdist}
-use Rattle.pylock_core.specs.Words.{directory_word}
-use Rattle.pylock_places.specs.Shown.{file_label, shown_place}
-use Rattle.pylock_shown.specs.Hidden.{hidden}
+use Rattle.pylock_readers.specs.Entry.{place_of}
+use Rattle.pylock_core.specs.Session.Picks.{SourceValue, source_commit_id, source_file_name}
+use Rattle.pylock_core.specs.Session.Picks.{source_location, source_subdirectory, source_vcs_kind}
+use Rattle.pylock_core.specs.Session.Picks.{source_word}
+use Rattle.pylock_places.specs.Shown.{source_text}
 use Rattle.pylock_diff.specs.Change.{ChangeValue, change_of}
 use Rattle.pylock_diff.specs.Item.{ItemValue}
 use Rattle.pylock_compare.specs.Texts.{Texts, are_alike}
 use Rattle.pylock_diff.specs.Versions.{version_key}
 use Rattle.pylock_diff.specs.declared.change.ChangeKind.TheVariants.{File}
 
--- the file name, or the place of a file without one
-abbrev pub called : FileValue → List ℕ
-called file = unwrap_or (file_name file) (place_of file.location)
+-- its file name, or the place of what has none
+abbrev pub called : SourceValue → List ℕ
+called source = unwrap_or (source_file_name source) (place_of (source_location source))
 
 -- kind, file name or place, the type and the commit of a revision, subdirectory
-abbrev pub identity : SourceValue → Texts
-identity (OfVcs vcs) =
-    Some (codes "vcs") ∷ Some (place_of vcs.location) ∷ Some vcs.kind ∷ Some vcs.commit_id
-    ∷ vcs.subdirectory ∷ []
-identity (OfDirectory directory) =
-    Some (directory_word directory) ∷ Some directory.path ∷ None ∷ None ∷ directory.subdirectory
-    ∷ []
-identity (OfArchive archive) =
-    Some (codes "archive") ∷ Some (place_of archive.location) ∷ None ∷ None
-    ∷ archive.subdirectory ∷ []
-identity (OfWheel file) = Some (codes "wheel") ∷ Some (called file) ∷ None ∷ None ∷ None ∷ []
-identity (OfSdist file) = Some (codes "sdist") ∷ Some (called file) ∷ None ∷ None ∷ None ∷ []
-
--- what it is: its kind, and its file name or place, as they are shown
-abbrev pub source_text : SourceValue → List ℕ
-source_text (OfVcs vcs) = codes "vcs " ++ shown_place vcs.location
-source_text (OfDirectory directory) =
-    directory_word directory ++ codes " " ++ hidden directory.path
-source_text (OfArchive archive) = codes "archive " ++ shown_place archive.location
-source_text (OfWheel file) = codes "wheel " ++ file_label file
-source_text (OfSdist file) = codes "sdist " ++ file_label file
+unfoldable pub identity : SourceValue → Texts
+identity source =
+    Some (source_word source) ∷ Some (called source) ∷ source_vcs_kind source
+    ∷ source_commit_id source ∷ source_subdirectory source ∷ []
 
 -- by what an entry's sources are compared besides themselves
 abbrev pub condition_key : ItemValue → Texts

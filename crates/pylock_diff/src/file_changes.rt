@@ -4,22 +4,21 @@ ghost use Rattle.std.specs.Prelude.{◌≡◌, ◌++◌, IfOk, OnOk, map, string
 ghost use Rattle.std.specs.List.{flat_map};
 ghost use Rattle.std.specs.Option.{option_copied};
 ghost use Rattle.pylock_readers.specs.Text.{text_pairs};
-ghost use Rattle.pylock_diff.specs.Files.{archive_hash_changes, archives_label, file_hash_changes};
-ghost use Rattle.pylock_diff.specs.Files.{files_label, hashed_archives, hashed_files, if_both};
-ghost use Rattle.pylock_diff.specs.Files.{if_there, paths_of, place_change, places_text, urls_of};
-ghost use Rattle.pylock_diff.specs.Files.{shown_places};
-ghost use Rattle.pylock_diff.specs.Hashes.{are_same_sets, hashed_changes};
-ghost use Rattle.pylock_diff.specs.Inner.Lent.{archive_row, file_row, hash_row};
+ghost use Rattle.pylock_core.specs.Session.Picks.{source_hashes, source_location};
 ghost use Rattle.pylock_compare.specs.Lent.{lent_texts};
-ghost use Rattle.pylock_diff.specs.Inner.Lent.{lent_archives, lent_files};
 ghost use Rattle.pylock_compare.specs.Rows.{under_each};
+ghost use Rattle.pylock_diff.specs.Files.{hashed, hashes_told, if_both, if_there, label_of};
+ghost use Rattle.pylock_diff.specs.Files.{paths_of, place_change, places_text, shown_places};
+ghost use Rattle.pylock_diff.specs.Files.{urls_of};
+ghost use Rattle.pylock_diff.specs.Hashes.{are_same_sets, hashed_changes};
+ghost use Rattle.pylock_diff.specs.Inner.Lent.{file_row, hash_row, lent_sources};
 
 use crate::change::{Change, ChangeKind, ChangedName, push_change};
 use crate::hashes::{Hashed, are_same_texts, push_hashed};
 use crate::texts::{joined, lent};
 use pylock_compare::{Sides, in_order};
-use pylock_core::{Archive, DistributionFile};
-use pylock_places::{file_label, shown_place};
+use pylock_core::PickedSource;
+use pylock_places::{shown_place, source_label};
 use pylock_shared::SharedText;
 use std::alloc::{AllocError, Global};
 
@@ -31,11 +30,11 @@ pub(crate) fn push_file_hashes<'a>(
     alloc: Global,
     changes: &mut Vec<Change>,
     name: &ChangedName<'_>,
-    olds: &[(&'a str, &'a DistributionFile)],
-    news: &[(&'a str, &'a DistributionFile)],
+    olds: &[(&'a str, PickedSource<'a>)],
+    news: &[(&'a str, PickedSource<'a>)],
 ) -> Result<Vec<Change>, AllocError>
     ensures hashes { OnOk result (changes.new.items ≡ changes.old.items
-        ++ under_each (λ file. file_hash_changes name.now)
+        ++ under_each (λ file. hashes_told name.now)
         (map file_row olds.now) (map file_row news.now)) }
     ensures places { IfOk result (λ places. places.items
         ≡ under_each (λ file. if_both (place_change name.now))
@@ -44,7 +43,7 @@ pub(crate) fn push_file_hashes<'a>(
     let mut places = Vec::new(alloc);
     let sides = Sides::new(alloc, olds, news)?;
     for file in &sides.names {
-        push_shared_file(
+        push_told_hashes(
             alloc,
             changes,
             name,
@@ -67,16 +66,16 @@ pub(crate) fn push_archive_hashes<'a>(
     alloc: Global,
     changes: &mut Vec<Change>,
     name: &ChangedName<'_>,
-    olds: &[(&'a str, &'a Archive)],
-    news: &[(&'a str, &'a Archive)],
+    olds: &[(&'a str, PickedSource<'a>)],
+    news: &[(&'a str, PickedSource<'a>)],
 ) -> Result<(), AllocError>
     ensures { OnOk result (changes.new.items ≡ changes.old.items
-        ++ under_each (λ place. archive_hash_changes name.now)
-        (map archive_row olds.now) (map archive_row news.now)) }
+        ++ under_each (λ place. hashes_told name.now)
+        (map file_row olds.now) (map file_row news.now)) }
 {
     let sides = Sides::new(alloc, olds, news)?;
     for place in &sides.names {
-        push_shared_archive(
+        push_told_hashes(
             alloc,
             changes,
             name,
@@ -89,67 +88,68 @@ pub(crate) fn push_archive_hashes<'a>(
 
 // ---- hashes
 
-/// Adds what changed of the hashes of files of one name, which may be none.
-fn push_shared_file(
+/// Adds what changed of the hashes of files of one name, or of archives of one place; there may be
+/// none.
+fn push_told_hashes(
     alloc: Global,
     changes: &mut Vec<Change>,
     name: &ChangedName<'_>,
-    olds: &[&DistributionFile],
-    news: &[&DistributionFile],
+    olds: &[PickedSource<'_>],
+    news: &[PickedSource<'_>],
 ) -> Result<(), AllocError>
     ensures { OnOk result (changes.new.items ≡ changes.old.items
-        ++ file_hash_changes name.now (lent_files olds.now) (lent_files news.now)) }
+        ++ hashes_told name.now (lent_sources olds.now) (lent_sources news.now)) }
 {
     if olds.is_empty() || news.is_empty() {
         return Ok(());
     }
-    push_both_files(alloc, changes, name, olds, news)
+    push_both(alloc, changes, name, olds, news)
 }
 
 /// The same of what stands in both.
-fn push_both_files(
+fn push_both(
     alloc: Global,
     changes: &mut Vec<Change>,
     name: &ChangedName<'_>,
-    olds: &[&DistributionFile],
-    news: &[&DistributionFile],
+    olds: &[PickedSource<'_>],
+    news: &[PickedSource<'_>],
 ) -> Result<(), AllocError>
     ensures { OnOk result (changes.new.items ≡ changes.old.items ++ hashed_changes name.now
-        (hashed_files (lent_files olds.now)) (hashed_files (lent_files news.now))) }
+        (hashed (lent_sources olds.now)) (hashed (lent_sources news.now))) }
 {
-    let old = hashed_files(alloc, olds)?;
-    let new = hashed_files(alloc, news)?;
+    let old = hashed(alloc, olds)?;
+    let new = hashed(alloc, news)?;
     push_hashed(alloc, changes, name, &old, &new)
 }
 
-/// Files of one name, with their hashes.
-fn hashed_files<'a>(alloc: Global, files: &[&'a DistributionFile]) -> Result<Hashed<'a>, AllocError>
-    ensures { IfOk result (λ hashed. hashed ≡ hashed_files (lent_files files.now)) }
+/// Sources of one name or place, with their hashes.
+fn hashed<'a>(alloc: Global, sources: &[PickedSource<'a>]) -> Result<Hashed<'a>, AllocError>
+    ensures { IfOk result (λ made. made ≡ hashed (lent_sources sources.now)) }
 {
-    let label = SharedText::new(alloc, files_label(alloc, files)?)?;
+    let label = SharedText::new(alloc, label_of(alloc, sources)?)?;
     let mut hashes = Vec::new(alloc);
-    push_files_hashes(&mut hashes, files)?;
+    push_hashes(&mut hashes, sources)?;
     Ok(Hashed { label, hashes })
 }
 
-fn files_label(alloc: Global, files: &[&DistributionFile]) -> Result<String, AllocError>
-    ensures { IfOk result (λ text. string_bytes text ≡ files_label (lent_files files.now)) }
+fn label_of(alloc: Global, sources: &[PickedSource<'_>]) -> Result<String, AllocError>
+    ensures { IfOk result (λ text. string_bytes text ≡ label_of (lent_sources sources.now)) }
 {
-    match files {
-        [file, ..] => file_label(alloc, file),
+    match sources {
+        [source, ..] => source_label(alloc, *source),
         [] => Ok(String::new(alloc)),
     }
 }
 
-fn push_files_hashes<'a>(
+fn push_hashes<'a>(
     rows: &mut Vec<(&'a str, &'a str)>,
-    files: &[&'a DistributionFile],
+    sources: &[PickedSource<'a>],
 ) -> Result<(), AllocError>
     ensures { OnOk result (map hash_row rows.new.items ≡ map hash_row rows.old.items
-        ++ flat_map (λ file. file.hashes) (lent_files files.now)) }
+        ++ flat_map source_hashes (lent_sources sources.now)) }
 {
-    for file in files {
-        push_pairs(rows, file.hashes())?;
+    for source in sources {
+        push_pairs(rows, source.hashes())?;
     }
     Ok(())
 }
@@ -168,72 +168,6 @@ fn push_pairs<'a>(
     Ok(())
 }
 
-/// Adds what changed of the hashes of archives of one place, which may be none.
-fn push_shared_archive(
-    alloc: Global,
-    changes: &mut Vec<Change>,
-    name: &ChangedName<'_>,
-    olds: &[&Archive],
-    news: &[&Archive],
-) -> Result<(), AllocError>
-    ensures { OnOk result (changes.new.items ≡ changes.old.items
-        ++ archive_hash_changes name.now (lent_archives olds.now) (lent_archives news.now)) }
-{
-    if olds.is_empty() || news.is_empty() {
-        return Ok(());
-    }
-    push_both_archives(alloc, changes, name, olds, news)
-}
-
-/// The same of what stands in both.
-fn push_both_archives(
-    alloc: Global,
-    changes: &mut Vec<Change>,
-    name: &ChangedName<'_>,
-    olds: &[&Archive],
-    news: &[&Archive],
-) -> Result<(), AllocError>
-    ensures { OnOk result (changes.new.items ≡ changes.old.items ++ hashed_changes name.now
-        (hashed_archives (lent_archives olds.now)) (hashed_archives (lent_archives news.now))) }
-{
-    let old = hashed_archives(alloc, olds)?;
-    let new = hashed_archives(alloc, news)?;
-    push_hashed(alloc, changes, name, &old, &new)
-}
-
-/// Archives of one place, with their hashes.
-fn hashed_archives<'a>(alloc: Global, archives: &[&'a Archive]) -> Result<Hashed<'a>, AllocError>
-    ensures { IfOk result (λ hashed. hashed ≡ hashed_archives (lent_archives archives.now)) }
-{
-    let label = SharedText::new(alloc, archives_label(alloc, archives)?)?;
-    let mut hashes = Vec::new(alloc);
-    push_archives_hashes(&mut hashes, archives)?;
-    Ok(Hashed { label, hashes })
-}
-
-fn archives_label(alloc: Global, archives: &[&Archive]) -> Result<String, AllocError>
-    ensures { IfOk result (λ text. string_bytes text
-        ≡ archives_label (lent_archives archives.now)) }
-{
-    match archives {
-        [archive, ..] => shown_place(alloc, archive.path(), archive.url()),
-        [] => Ok(String::new(alloc)),
-    }
-}
-
-fn push_archives_hashes<'a>(
-    rows: &mut Vec<(&'a str, &'a str)>,
-    archives: &[&'a Archive],
-) -> Result<(), AllocError>
-    ensures { OnOk result (map hash_row rows.new.items ≡ map hash_row rows.old.items
-        ++ flat_map (λ archive. archive.hashes) (lent_archives archives.now)) }
-{
-    for archive in archives {
-        push_pairs(rows, archive.hashes())?;
-    }
-    Ok(())
-}
-
 // ---- places
 
 /// Adds that files of one name lie elsewhere, where both locks have some and these do.
@@ -241,11 +175,11 @@ fn push_place(
     alloc: Global,
     changes: &mut Vec<Change>,
     name: &ChangedName<'_>,
-    olds: &[&DistributionFile],
-    news: &[&DistributionFile],
+    olds: &[PickedSource<'_>],
+    news: &[PickedSource<'_>],
 ) -> Result<(), AllocError>
     ensures { OnOk result (changes.new.items ≡ changes.old.items
-        ++ if_both (place_change name.now) (lent_files olds.now) (lent_files news.now)) }
+        ++ if_both (place_change name.now) (lent_sources olds.now) (lent_sources news.now)) }
 {
     if olds.is_empty() || news.is_empty() {
         return Ok(());
@@ -257,44 +191,24 @@ fn push_place_change(
     alloc: Global,
     changes: &mut Vec<Change>,
     name: &ChangedName<'_>,
-    olds: &[&DistributionFile],
-    news: &[&DistributionFile],
+    olds: &[PickedSource<'_>],
+    news: &[PickedSource<'_>],
 ) -> Result<(), AllocError>
     ensures { OnOk result (changes.new.items ≡ changes.old.items
-        ++ place_change name.now (lent_files olds.now) (lent_files news.now)) }
+        ++ place_change name.now (lent_sources olds.now) (lent_sources news.now)) }
 {
-    if have_same_urls(alloc, olds, news)? && have_same_paths(alloc, olds, news)? {
+    let old_urls = urls_of(alloc, olds)?;
+    let new_urls = urls_of(alloc, news)?;
+    let old_paths = paths_of(alloc, olds)?;
+    let new_paths = paths_of(alloc, news)?;
+    let same_urls = are_same_sets(alloc, old_urls.as_slice(), new_urls.as_slice())?;
+    let same_paths = are_same_sets(alloc, old_paths.as_slice(), new_paths.as_slice())?;
+    if same_urls && same_paths {
         return Ok(());
     }
     let from = places_text(alloc, olds)?;
     let to = places_text(alloc, news)?;
     push_change(changes, ChangeKind::Place, name, Some(from), Some(to))
-}
-
-fn have_same_urls(
-    alloc: Global,
-    olds: &[&DistributionFile],
-    news: &[&DistributionFile],
-) -> Result<bool, AllocError>
-    ensures { IfOk result (λ same. same
-        ≡ are_same_sets (urls_of (lent_files olds.now)) (urls_of (lent_files news.now))) }
-{
-    let olds = urls_of(alloc, olds)?;
-    let news = urls_of(alloc, news)?;
-    are_same_sets(alloc, olds.as_slice(), news.as_slice())
-}
-
-fn have_same_paths(
-    alloc: Global,
-    olds: &[&DistributionFile],
-    news: &[&DistributionFile],
-) -> Result<bool, AllocError>
-    ensures { IfOk result (λ same. same
-        ≡ are_same_sets (paths_of (lent_files olds.now)) (paths_of (lent_files news.now))) }
-{
-    let olds = paths_of(alloc, olds)?;
-    let news = paths_of(alloc, news)?;
-    are_same_sets(alloc, olds.as_slice(), news.as_slice())
 }
 
 /// Whether the same texts stand in both.
@@ -307,8 +221,8 @@ fn are_same_sets<'x>(alloc: Global, olds: &[&'x str], news: &[&'x str]) -> Resul
     are_same_texts(alloc, olds.as_slice(), news.as_slice())
 }
 
-fn urls_of<'a>(alloc: Global, files: &[&'a DistributionFile]) -> Result<Vec<&'a str>, AllocError>
-    ensures { IfOk result (λ list. lent_texts list.items ≡ urls_of (lent_files files.now)) }
+fn urls_of<'a>(alloc: Global, files: &[PickedSource<'a>]) -> Result<Vec<&'a str>, AllocError>
+    ensures { IfOk result (λ list. lent_texts list.items ≡ urls_of (lent_sources files.now)) }
 {
     let mut list = Vec::new(alloc);
     for file in files {
@@ -317,8 +231,8 @@ fn urls_of<'a>(alloc: Global, files: &[&'a DistributionFile]) -> Result<Vec<&'a 
     Ok(list)
 }
 
-fn paths_of<'a>(alloc: Global, files: &[&'a DistributionFile]) -> Result<Vec<&'a str>, AllocError>
-    ensures { IfOk result (λ list. lent_texts list.items ≡ paths_of (lent_files files.now)) }
+fn paths_of<'a>(alloc: Global, files: &[PickedSource<'a>]) -> Result<Vec<&'a str>, AllocError>
+    ensures { IfOk result (λ list. lent_texts list.items ≡ paths_of (lent_sources files.now)) }
 {
     let mut list = Vec::new(alloc);
     for file in files {
@@ -338,8 +252,8 @@ fn push_if_there<'a>(list: &mut Vec<&'a str>, text: Option<&'a str>) -> Result<(
 }
 
 /// The places of files of one name, each once.
-fn places_text(alloc: Global, files: &[&DistributionFile]) -> Result<String, AllocError>
-    ensures { IfOk result (λ text. string_bytes text ≡ places_text (lent_files files.now)) }
+fn places_text(alloc: Global, files: &[PickedSource<'_>]) -> Result<String, AllocError>
+    ensures { IfOk result (λ text. string_bytes text ≡ places_text (lent_sources files.now)) }
 {
     let places = places(alloc, files)?;
     let texts = lent(alloc, places.as_slice())?;
@@ -347,9 +261,9 @@ fn places_text(alloc: Global, files: &[&DistributionFile]) -> Result<String, All
     joined(alloc, ",", texts.as_slice())
 }
 
-fn places(alloc: Global, files: &[&DistributionFile]) -> Result<Vec<String>, AllocError>
+fn places(alloc: Global, files: &[PickedSource<'_>]) -> Result<Vec<String>, AllocError>
     ensures { IfOk result (λ list. map string_bytes list.items
-        ≡ flat_map (λ file. shown_places file.location) (lent_files files.now)) }
+        ≡ flat_map (λ file. shown_places (source_location file)) (lent_sources files.now)) }
 {
     let mut list = Vec::with_capacity(alloc, files.len())?;
     for file in files {

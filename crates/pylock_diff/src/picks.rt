@@ -7,14 +7,13 @@ ghost use Rattle.toml.specs.View.{table_view};
 ghost use Rattle.pylock_core.specs.Session.Picks.{lent_source};
 ghost use Rattle.pylock_readers.specs.Text.{text_pairs};
 ghost use Rattle.pylock_diff.specs.Inner.Picked.{lent_pick, picked_codes};
-ghost use Rattle.pylock_diff.specs.Picks.{archive_members, directory_members, file_members};
-ghost use Rattle.pylock_diff.specs.Picks.{hash_members, kind_word, pick_fields, put, put_hashes};
-ghost use Rattle.pylock_diff.specs.Picks.{source_members, vcs_members};
+ghost use Rattle.pylock_diff.specs.Picks.{hash_members, pick_fields, put, put_hashes};
+ghost use Rattle.pylock_diff.specs.Picks.{source_members, text_members};
 
 use crate::codes::Codes;
 use crate::compared::EntryCodes;
 use crate::item::Picked;
-use pylock_core::{Archive, Directory, DistributionFile, PickedSource, Vcs, directory_word};
+use pylock_core::PickedSource;
 use std::alloc::{AllocError, Global};
 use toml::{Table, Value};
 
@@ -40,20 +39,8 @@ fn fields(alloc: Global, pick: &Picked<'_>) -> Result<Codes, AllocError>
         codes.push_text(alloc, "version", version)?;
     }
     let source = source_table(alloc, pick.source)?;
-    codes.push_value(alloc, kind_word(pick.source), &Value::Table(source))?;
+    codes.push_value(alloc, pick.source.word(), &Value::Table(source))?;
     Ok(codes)
-}
-
-fn kind_word(source: PickedSource<'_>) -> &'static str
-    ensures { result.now ≡ kind_word (lent_source source.entry) }
-{
-    match source {
-        PickedSource::Vcs(_) => "vcs",
-        PickedSource::Directory(directory) => directory_word(directory),
-        PickedSource::Archive(_) => "archive",
-        PickedSource::Wheel(_) => "wheel",
-        PickedSource::Sdist(_) => "sdist",
-    }
 }
 
 /// The fields of a source as a table.
@@ -61,12 +48,25 @@ fn source_table(alloc: Global, source: PickedSource<'_>) -> Result<Table, AllocE
     ensures { IfOk result (λ table. table_view table
         ≡ source_members (lent_source source.entry)) }
 {
-    match source {
-        PickedSource::Vcs(vcs) => vcs_table(alloc, vcs),
-        PickedSource::Directory(directory) => directory_table(alloc, directory),
-        PickedSource::Archive(archive) => archive_table(alloc, archive),
-        PickedSource::Wheel(file) | PickedSource::Sdist(file) => file_table(alloc, file),
+    let mut table = text_table(alloc, source)?;
+    if !source.is_unhashed() {
+        put_hashes(alloc, &mut table, source.hashes())?;
     }
+    Ok(table)
+}
+
+/// Those of its keys that are texts.
+fn text_table(alloc: Global, source: PickedSource<'_>) -> Result<Table, AllocError>
+    ensures { IfOk result (λ table. table_view table ≡ text_members (lent_source source.entry)) }
+{
+    let mut table = Table::new(alloc);
+    put(alloc, &mut table, "subdirectory", source.subdirectory())?;
+    put(alloc, &mut table, "path", source.path())?;
+    put(alloc, &mut table, "url", source.url())?;
+    put(alloc, &mut table, "name", source.file_name())?;
+    put(alloc, &mut table, "commit-id", source.commit_id())?;
+    put(alloc, &mut table, "type", source.vcs_kind())?;
+    Ok(table)
 }
 
 /// Puts a text in, where it is there.
@@ -78,49 +78,6 @@ fn put(alloc: Global, table: &mut Table, key: &str, text: Option<&str>) -> Resul
         table.insert(String::from_str(alloc, key)?, Value::string(alloc, text)?)?;
     }
     Ok(())
-}
-
-fn vcs_table(alloc: Global, vcs: &Vcs) -> Result<Table, AllocError>
-    ensures { IfOk result (λ table. table_view table ≡ vcs_members vcs.now) }
-{
-    let mut table = Table::new(alloc);
-    put(alloc, &mut table, "type", Some(vcs.kind()))?;
-    put(alloc, &mut table, "commit-id", Some(vcs.commit_id()))?;
-    put(alloc, &mut table, "url", vcs.url())?;
-    put(alloc, &mut table, "path", vcs.path())?;
-    put(alloc, &mut table, "subdirectory", vcs.subdirectory())?;
-    Ok(table)
-}
-
-fn directory_table(alloc: Global, directory: &Directory) -> Result<Table, AllocError>
-    ensures { IfOk result (λ table. table_view table ≡ directory_members directory.now) }
-{
-    let mut table = Table::new(alloc);
-    put(alloc, &mut table, "path", Some(directory.path()))?;
-    put(alloc, &mut table, "subdirectory", directory.subdirectory())?;
-    Ok(table)
-}
-
-fn archive_table(alloc: Global, archive: &Archive) -> Result<Table, AllocError>
-    ensures { IfOk result (λ table. table_view table ≡ archive_members archive.now) }
-{
-    let mut table = Table::new(alloc);
-    put(alloc, &mut table, "url", archive.url())?;
-    put(alloc, &mut table, "path", archive.path())?;
-    put(alloc, &mut table, "subdirectory", archive.subdirectory())?;
-    put_hashes(alloc, &mut table, archive.hashes())?;
-    Ok(table)
-}
-
-fn file_table(alloc: Global, file: &DistributionFile) -> Result<Table, AllocError>
-    ensures { IfOk result (λ table. table_view table ≡ file_members file.now) }
-{
-    let mut table = Table::new(alloc);
-    put(alloc, &mut table, "name", file.file_name())?;
-    put(alloc, &mut table, "url", file.url())?;
-    put(alloc, &mut table, "path", file.path())?;
-    put_hashes(alloc, &mut table, file.hashes())?;
-    Ok(table)
 }
 
 /// Puts a table of hashes in.

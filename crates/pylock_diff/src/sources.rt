@@ -1,19 +1,18 @@
 //! The sources of a name that one lock alone has.
 
 ghost use Rattle.std.specs.Prelude.{◌≡◌, ◌++◌, ◌∷◌, ◌||◌, [], IfOk, List, OnOk, None, Some, filter};
-ghost use Rattle.std.specs.Prelude.{if◌then◌else◌, is_some, map, not, string_bytes};
+ghost use Rattle.std.specs.Prelude.{if◌then◌else◌, is_some, map, not};
 ghost use Rattle.std.specs.BTreeMap.{get};
 ghost use Rattle.std.specs.BTreeSet.{contains};
 ghost use Rattle.std.specs.List.{flat_map, list_any};
-ghost use Rattle.std.specs.Option.{option_copied};
 ghost use Rattle.pylock_core.specs.Session.Picks.{lent_source};
+ghost use Rattle.pylock_places.specs.Shown.{source_text};
 ghost use Rattle.pylock_diff.specs.Change.{change_of};
 ghost use Rattle.pylock_diff.specs.Inner.Others.{AreOthers, HasSources, HasVersions, HasWholes};
 ghost use Rattle.pylock_diff.specs.Inner.Others.{has_at, holds_at};
 ghost use Rattle.pylock_diff.specs.Item.{ItemValue};
-ghost use Rattle.pylock_diff.specs.Sources.{called, condition_key, file_changes, has_counterpart};
-ghost use Rattle.pylock_diff.specs.Sources.{identity, lone_in, lone_sources, source_text};
-ghost use Rattle.pylock_diff.specs.Sources.{whole_key};
+ghost use Rattle.pylock_diff.specs.Sources.{condition_key, file_changes, has_counterpart, identity};
+ghost use Rattle.pylock_diff.specs.Sources.{lone_in, lone_sources, whole_key};
 ghost use Rattle.pylock_compare.specs.Texts.{Texts, are_alike, texts_cmp};
 ghost use Rattle.pylock_diff.specs.Versions.{version_key};
 ghost use Rattle.pylock_diff.specs.declared.change.ChangeKind.TheVariants.{File};
@@ -22,9 +21,8 @@ use crate::change::{Change, ChangeKind, ChangedName, push_change};
 use crate::conditions::bytes_of;
 use crate::item::Keyed;
 use pylock_compare::Key;
-use pylock_core::{DistributionFile, PickedSource, directory_word};
-use pylock_places::{file_label, joined, shown_place};
-use pylock_shown::hidden;
+use pylock_core::PickedSource;
+use pylock_places::source_text;
 use std::alloc::{AllocError, Global};
 use std::collections::{BTreeMap, BTreeSet};
 
@@ -70,66 +68,18 @@ fn push_identities<'x>(key: &mut Key<'x>, sources: &[PickedSource<'x>]) -> Resul
     Ok(())
 }
 
-/// Adds what a source is.
+/// Adds what a source is: kind, file name or place, the type and the commit of a revision,
+/// subdirectory.
+#[tactic(auto, unfolding(crate::specs::Sources::identity))]
 fn push_identity<'x>(key: &mut Key<'x>, source: PickedSource<'x>) -> Result<(), AllocError>
     ensures { OnOk result (key.new ≡ key.old ++ identity (lent_source source.entry)) }
 {
-    match source {
-        PickedSource::Vcs(vcs) => {
-            let revision = (Some(vcs.kind()), Some(vcs.commit_id()));
-            push_parts(key, "vcs", vcs.place(), revision, vcs.subdirectory())
-        }
-        PickedSource::Directory(directory) => {
-            let word = directory_word(directory);
-            push_parts(
-                key,
-                word,
-                directory.path(),
-                (None, None),
-                directory.subdirectory(),
-            )
-        }
-        PickedSource::Archive(archive) => {
-            push_parts(
-                key,
-                "archive",
-                archive.place(),
-                (None, None),
-                archive.subdirectory(),
-            )
-        }
-        PickedSource::Wheel(file) => push_parts(key, "wheel", called(file), (None, None), None),
-        PickedSource::Sdist(file) => push_parts(key, "sdist", called(file), (None, None), None),
-    }
-}
-
-/// Adds kind, file name or place, the type and the commit of a revision, subdirectory.
-fn push_parts<'x>(
-    key: &mut Key<'x>,
-    kind: &'x str,
-    called: &'x str,
-    revision: (Option<&'x str>, Option<&'x str>),
-    subdirectory: Option<&'x str>,
-) -> Result<(), AllocError>
-    ensures { OnOk result (key.new ≡ key.old ++ Some kind.now ∷ Some called.now
-        ∷ option_copied revision.entry.0 ∷ option_copied revision.entry.1
-        ∷ option_copied subdirectory.entry ∷ []) }
-{
-    key.push(Some(kind.as_bytes()))?;
+    let called = source.file_name().unwrap_or(source.place());
+    key.push(Some(source.word().as_bytes()))?;
     key.push(Some(called.as_bytes()))?;
-    key.push(bytes_of(revision.0))?;
-    key.push(bytes_of(revision.1))?;
-    key.push(bytes_of(subdirectory))
-}
-
-/// The file name, or the place of a file without one.
-fn called(file: &DistributionFile) -> &str
-    ensures { result.now ≡ called file.now }
-{
-    match file.file_name() {
-        Some(name) => name,
-        None => file.place(),
-    }
+    key.push(bytes_of(source.vcs_kind()))?;
+    key.push(bytes_of(source.commit_id()))?;
+    key.push(bytes_of(source.subdirectory()))
 }
 
 // ---- what the other lock has
@@ -376,30 +326,4 @@ fn push_come(
         push_change(changes, ChangeKind::File, name, None, to)?;
     }
     Ok(())
-}
-
-/// What a source is: its kind, and its file name or place, as they are shown.
-fn source_text(alloc: Global, source: PickedSource<'_>) -> Result<String, AllocError>
-    ensures { IfOk result (λ text. string_bytes text ≡ source_text (lent_source source.entry)) }
-{
-    match source {
-        PickedSource::Vcs(vcs) => {
-            let place = shown_place(alloc, vcs.path(), vcs.url())?;
-            joined(alloc, "vcs ", place.as_str())
-        }
-        PickedSource::Directory(directory) => {
-            let word = joined(alloc, directory_word(directory), " ")?;
-            joined(
-                alloc,
-                word.as_str(),
-                hidden(alloc, directory.path())?.as_str(),
-            )
-        }
-        PickedSource::Archive(archive) => {
-            let place = shown_place(alloc, archive.path(), archive.url())?;
-            joined(alloc, "archive ", place.as_str())
-        }
-        PickedSource::Wheel(file) => joined(alloc, "wheel ", file_label(alloc, file)?.as_str()),
-        PickedSource::Sdist(file) => joined(alloc, "sdist ", file_label(alloc, file)?.as_str()),
-    }
 }

@@ -3,3 +3,5 @@ pub mod RefusalLemmas
 pub mod SafeLemmas
 pub mod SpellLemmas
 pub mod ReadLemmas
+pub mod PlainLemmas
+pub mod EnvironmentLemmas

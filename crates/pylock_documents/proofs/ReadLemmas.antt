@@ -33,17 +33,17 @@ use Rattle.pylock_documents.specs.Safe.{IsWritten, ItemsWritten, MembersWritten,
 -- ---- one character
 
 -- the escapes of the bytes below n are printable
-abbrev printable_below : ℕ → Bool
+abbrev pub printable_below : ℕ → Bool
 printable_below zero = true
 printable_below (suc n) = list_all is_printable (escape_byte n) && printable_below n
 
-printable_escape : (n : ℕ) → printable_below n ≡ true → (x : ℕ) → x < n → list_all is_printable (escape_byte x) ≡ true
+pub printable_escape : (n : ℕ) → printable_below n ≡ true → (x : ℕ) → x < n → list_all is_printable (escape_byte x) ≡ true
 printable_escape zero e x h = absurd (omega arith)
 printable_escape (suc n) e x h =
     let p = and_parts (list_all is_printable (escape_byte n)) (printable_below n) e in
     elim (cases_eq x n) [ inl same ↦ rw same p.0 | inr different ↦ printable_escape n p.1 x (omega arith) ]
 
-all_printable : printable_below 127 ≡ true
+pub all_printable : printable_below 127 ≡ true
 unfolding escape_byte
 all_printable = refl
 

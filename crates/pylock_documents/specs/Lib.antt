@@ -1,4 +1,5 @@
 pub mod Documents
+pub mod Environment
 pub mod Safe
 pub mod Source
 pub mod Texts

@@ -1,13 +1,19 @@
 //! Laws of the definitions alone: each function's contract is a law, and its body is empty.
 
-ghost use Rattle.std.specs.Prelude.{◌≡◌, ◌++◌, ℕ, List, Option, None, Some, codes, false};
+ghost use Rattle.std.specs.Prelude.{◌≡◌, ◌++◌, ℕ, List, Ok, Option, None, Some, codes, false};
 ghost use Rattle.serde_json.specs.Data.{Data};
 ghost use Rattle.serde_json.specs.Find.{get_member};
 ghost use Rattle.serde_json.specs.Read.{read};
 ghost use Rattle.serde_json.specs.Written.{compact_text};
 ghost use Rattle.pylock_json.specs.Json.{members_of, texts_of};
 ghost use Rattle.pylock_messages.specs.Diagnostic.{DiagnosticValue};
+ghost use Rattle.pylock_readers.specs.Environment.{env_of};
+ghost use Rattle.pylock_readers.specs.Target.{target_environment};
+ghost use Rattle.pywheel_core.specs.Target.Reading.{target_of};
+ghost use Rattle.pywheel_core.specs.Target.Tags.{target_tags};
+ghost use Rattle.pywheel_core.specs.Target.Value.{TargetValue};
 ghost use Rattle.pylock_documents.specs.Documents.{is_refusal_key, refused_rows};
+ghost use Rattle.pylock_documents.specs.Environment.{target_text};
 ghost use Rattle.pylock_documents.specs.Safe.{IsWritten, safe_json};
 
 /// Whatever is told of a refusal, its document has the words, and beside them no member but those
@@ -26,4 +32,12 @@ pub fn refusals_have_their_words()
 pub fn safe_json_reads_back()
     ensures { (d : Data) → IsWritten d
         → read (safe_json (compact_text d) ++ codes "\n") ≡ read (compact_text d) }
+{}
+
+/// The text of a target's environment is read as this very environment and list of tags.
+#[tactic(auto, using(crate::proofs::EnvironmentLemmas::read_text_back))]
+pub fn target_text_is_read_back()
+    ensures { (python platform : List ℕ) (target : TargetValue)
+        → target_of python platform ≡ Ok target
+        → env_of (target_text target) ≡ Ok (target_environment target, target_tags target) }
 {}

@@ -2,7 +2,8 @@
 //! files of a lock, its head, the parts of a requirement and of a file name, and the words of a
 //! refusal. They have what the printed lines have, each field under a name of its own, and of a
 //! fault its reason too. A field that is absent is left out. The document of findings is
-//! `pylock_audit`'s.
+//! `pylock_audit`'s. The text of a target's environment is JSON of another form: that of an
+//! environment file.
 //!
 //! The files of a lock, as lines or as a document, from `crates/pylock_program/src/reply.rt`:
 //!
@@ -14,6 +15,7 @@
 //! ```
 #![tactic(auto)]
 
+mod environment;
 mod explain;
 mod files;
 mod head;
@@ -26,6 +28,7 @@ mod source;
 mod texts;
 mod written;
 
+pub use environment::environment_text;
 pub use explain::explain_document;
 pub use files::files_document;
 pub use head::head_document;

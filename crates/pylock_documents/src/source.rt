@@ -1,17 +1,14 @@
 //! The object of a source.
 
-ghost use Rattle.std.specs.Prelude.{◌≡◌, ◌∷◌, [], IfOk, OnOk, Some, codes, map};
-ghost use Rattle.std.specs.Option.{option_copied};
+ghost use Rattle.std.specs.Prelude.{◌≡◌, IfOk, OnOk, codes, map, option_map};
 ghost use Rattle.serde_json.specs.View.{members_view, view as data_of};
-ghost use Rattle.pylock_json.specs.Json.{maybe, members_of, object_of, there, with_row};
-ghost use Rattle.pylock_json.specs.Json.{with_rows};
+ghost use Rattle.pylock_json.specs.Json.{members_of, object_of, with_row, with_rows};
 ghost use Rattle.pylock_readers.specs.Text.{text_pairs};
-ghost use Rattle.pylock_core.specs.Session.Picks.{lent_source};
-ghost use Rattle.pylock_documents.specs.Source.{archive_rows, directory_rows, entry_rows};
-ghost use Rattle.pylock_documents.specs.Source.{file_rows, hash_row, hashes_data, revision_data};
-ghost use Rattle.pylock_documents.specs.Source.{source_data, source_rows, vcs_rows};
+ghost use Rattle.pylock_core.specs.Session.Picks.{lent_source, source_vcs};
+ghost use Rattle.pylock_documents.specs.Source.{entry_rows, hash_row, hashes_data, revision_data};
+ghost use Rattle.pylock_documents.specs.Source.{source_data, source_rows};
 
-use pylock_core::{Archive, Directory, DistributionFile, Entry, PickedSource, Vcs, directory_word};
+use pylock_core::{Entry, PickedSource, Vcs};
 use pylock_json::{Json, Object};
 use std::alloc::{AllocError, Global};
 
@@ -43,6 +40,7 @@ fn entry_object(alloc: Global, number: u64, entry: &Entry) -> Result<Object, All
     Ok(object)
 }
 
+#[tactic(auto, unfolding(crate::specs::Source::source_rows))]
 fn put_source(
     alloc: Global,
     object: &mut Object,
@@ -51,23 +49,30 @@ fn put_source(
     ensures { OnOk result (members_view object.new
         ≡ with_rows (source_rows (lent_source source.entry)) (members_view object.old)) }
 {
-    match source {
-        PickedSource::Vcs(vcs) => put_vcs(alloc, object, vcs),
-        PickedSource::Directory(directory) => put_directory(alloc, object, directory),
-        PickedSource::Archive(archive) => put_archive(alloc, object, archive),
-        PickedSource::Wheel(wheel) => put_file(alloc, object, "wheel", wheel),
-        PickedSource::Sdist(sdist) => put_file(alloc, object, "sdist", sdist),
-    }
+    object.put_text(alloc, "kind", source.word())?;
+    object.put_maybe(alloc, "file", source.file_name())?;
+    object.put_text(alloc, "place", source.place())?;
+    object.put_maybe(alloc, "url", source.url())?;
+    object.put_maybe(alloc, "path", source.path())?;
+    put_revision(alloc, object, source)?;
+    put_hashes(alloc, object, source.hashes())?;
+    object.put_maybe(alloc, "subdirectory", source.subdirectory())
 }
 
-fn put_vcs(alloc: Global, object: &mut Object, vcs: &Vcs) -> Result<(), AllocError>
-    ensures { OnOk result (members_view object.new
-        ≡ with_rows (vcs_rows vcs.now) (members_view object.old)) }
+/// Puts the revision of a checkout.
+fn put_revision(
+    alloc: Global,
+    object: &mut Object,
+    source: PickedSource<'_>,
+) -> Result<(), AllocError>
+    ensures { OnOk result (members_view object.new ≡ with_row
+        (codes "revision", option_map revision_data (source_vcs (lent_source source.entry)))
+        (members_view object.old)) }
 {
-    object.put_text(alloc, "kind", "vcs")?;
-    put_place(alloc, object, vcs.place(), vcs.url(), vcs.path())?;
-    object.put(alloc, "revision", revision_object(alloc, vcs)?)?;
-    object.put_maybe(alloc, "subdirectory", vcs.subdirectory())
+    match source.vcs() {
+        Some(vcs) => object.put(alloc, "revision", revision_object(alloc, vcs)?),
+        None => Ok(()),
+    }
 }
 
 fn revision_object(alloc: Global, vcs: &Vcs) -> Result<Json, AllocError>
@@ -77,72 +82,6 @@ fn revision_object(alloc: Global, vcs: &Vcs) -> Result<Json, AllocError>
     object.put_text(alloc, "type", vcs.kind())?;
     object.put_text(alloc, "commit", vcs.commit_id())?;
     Ok(object.into_json())
-}
-
-fn put_directory(
-    alloc: Global,
-    object: &mut Object,
-    directory: &Directory,
-) -> Result<(), AllocError>
-    ensures { OnOk result (members_view object.new
-        ≡ with_rows (directory_rows directory.now) (members_view object.old)) }
-{
-    object.put_text(alloc, "kind", directory_word(directory))?;
-    object.put_text(alloc, "place", directory.place())?;
-    object.put_text(alloc, "path", directory.path())?;
-    object.put_maybe(alloc, "subdirectory", directory.subdirectory())
-}
-
-fn put_archive(alloc: Global, object: &mut Object, archive: &Archive) -> Result<(), AllocError>
-    ensures { OnOk result (members_view object.new
-        ≡ with_rows (archive_rows archive.now) (members_view object.old)) }
-{
-    object.put_text(alloc, "kind", "archive")?;
-    put_place(
-        alloc,
-        object,
-        archive.place(),
-        archive.url(),
-        archive.path(),
-    )?;
-    put_hashes(alloc, object, archive.hashes())?;
-    object.put_maybe(alloc, "subdirectory", archive.subdirectory())
-}
-
-/// Puts the members of a wheel or of an sdist.
-fn put_file(
-    alloc: Global,
-    object: &mut Object,
-    kind: &str,
-    file: &DistributionFile,
-) -> Result<(), AllocError>
-    ensures { OnOk result (members_view object.new
-        ≡ with_rows (file_rows kind.now file.now) (members_view object.old)) }
-{
-    object.put_text(alloc, "kind", kind)?;
-    object.put_maybe(alloc, "file", file.file_name())?;
-    put_place(alloc, object, file.place(), file.url(), file.path())?;
-    put_hashes(alloc, object, file.hashes())
-}
-
-/// Puts a place, and the keys that may give it.
-fn put_place(
-    alloc: Global,
-    object: &mut Object,
-    place: &str,
-    url: Option<&str>,
-    path: Option<&str>,
-) -> Result<(), AllocError>
-    ensures { OnOk result (members_view object.new
-        ≡ with_rows (
-        (codes "place", there place.now)
-        ∷ (codes "url", maybe (option_copied url.entry))
-        ∷ (codes "path", maybe (option_copied path.entry))
-        ∷ []) (members_view object.old)) }
-{
-    object.put_text(alloc, "place", place)?;
-    object.put_maybe(alloc, "url", url)?;
-    object.put_maybe(alloc, "path", path)
 }
 
 /// Puts the hashes, where there are any.

@@ -103,7 +103,8 @@ fn wheel_object(alloc: Global, wheel: &WheelName) -> Result<Json, AllocError>
     Ok(object.into_json())
 }
 
-fn tags_list(alloc: Global, tags: &[Tag]) -> Result<List, AllocError>
+/// The texts of the tags.
+pub(crate) fn tags_list(alloc: Global, tags: &[Tag]) -> Result<List, AllocError>
     ensures { IfOk result (λ list. map data_of list ≡ map string (map tag_text tags.now)) }
 {
     let mut list = List::new(alloc);

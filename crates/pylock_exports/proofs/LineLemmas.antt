@@ -7,9 +7,9 @@ use Rattle.std.specs.List.{All, AllByRecursion}
 use Rattle.std.specs.Option.{option_map_or}
 use Rattle.pytext.specs.Bytes.{starts}
 use Rattle.pytext.specs.Results.{◌>>=◌}
-use Rattle.pylock_readers.specs.Entry.{ArchiveValue, DirectoryValue, FileValue, VcsValue}
+use Rattle.pylock_readers.specs.Entry.{DirectoryValue, VcsValue}
 use Rattle.pylock_readers.specs.Entry.FileName.{is_slash}
-use Rattle.pylock_core.specs.Session.Picks.{SourceValue, OfVcs, OfDirectory, OfArchive, OfWheel, OfSdist}
+use Rattle.pylock_core.specs.Session.Picks.{SourceValue, OfVcs, OfDirectory, OfArchive, OfWheel, OfSdist, source_hashes, source_location, source_subdirectory}
 use Rattle.pylock_exports.specs.FileNames.{ends_as_file, last_part}
 use Rattle.pylock_exports.specs.Line.{EndsInFile, IsCheckoutUrl, IsCommit, IsDirectory, IsDirectoryPath, IsFetchedUrl, IsFileName, IsFilePath, IsFileUrl, IsFragment, IsHash, IsHashOption, IsLine, IsName, IsOf, IsPath, IsPlace, IsPlainPath, IsSub, IsSubdirectory, IsSumName, IsWebUrl, folder}
 use Rattle.pylock_exports.specs.Line.{option_sha256, option_sha384, option_sha512}
@@ -18,7 +18,7 @@ use Rattle.pylock_exports.specs.Listed.{ListedValue, file_name_of_source, hash_o
 use Rattle.pylock_exports.specs.Lists.{aria2_name_check, fetched_check, is_control_file, key_of, list_check, own_sum_check, source_lines, sum_name, sum_name_check, value_of, with_sources}
 use Rattle.pylock_exports.specs.Parts.{Check, any_url_check, behind, checkout_url_check, commit_check, directory_path_check, file_name_check, has_hex_commits, hash_check, host_check, host_cut, is_file_url, name_check, path_check, plain_check, require, subdirectory_check, there, web_url_check, where_there}
 use Rattle.pylock_exports.specs.Refusals.{at_number}
-use Rattle.pylock_exports.specs.Requirements.{archive_check, best_hash_check, best_hash_option, directory_check, directory_end, file_check, fragment, hashes_check, hashes_option, header, is_in, location_text, named, part_of, parts_check, path_text, place_check, project_of, requirement_check, requirement_line, requirements_lines, source_check, source_line, source_requirements, vcs_check, vcs_line}
+use Rattle.pylock_exports.specs.Requirements.{best_hash_check, best_hash_option, directory_check, directory_end, fragment, hashed_check, hashed_line, hashes_check, hashes_option, header, is_in, location_text, named, part_of, parts_check, path_text, place_check, project_of, requirement_check, requirement_line, requirements_lines, source_check, source_line, source_requirements, vcs_check, vcs_line}
 use Rattle.pylock_exports.specs.Texts.{format_lines}
 use Rattle.pylock_exports.proofs.OnceLemmas.{all_from}
 use Rattle.pylock_exports.proofs.SplitLemmas.{behind_found, joined_five, web_found}
@@ -200,21 +200,15 @@ directory_is directory taken =
     by true is = inl refl
     by false is = inr (refl, not_true _ is)
 
-archive_is : (name : List ℕ) (archive : ArchiveValue) (project : Option (List ℕ)) → IsName name
-    → archive_check name archive (last_of (OfArchive archive)) project ≡ Ok tt → IsLine format.Requirements (source_line name (OfArchive archive))
-archive_is name archive project is_name taken =
-    let three = both _ _ taken in
+hashed_is : (name : List ℕ) (source : SourceValue) (project : Option (List ℕ)) → IsName name
+    → hashed_check name source (last_part (source_location source).url (source_location source).path) project ≡ Ok tt → IsLine format.Requirements (hashed_line name source)
+hashed_is name source project is_name taken =
+    let four = both _ _ taken in
+    let three = both _ _ four.0 in
     let two = both _ _ three.0 in
     let one = both _ _ two.0 in
-    located_line name archive.location.url archive.location.path archive.subdirectory (hashes_option archive.hashes) is_name one.0 (both _ _ one.1).0 (hashes_are archive.hashes two.1)
-
-file_is : (name : List ℕ) (file : FileValue) (project : Option (List ℕ)) → IsName name
-    → file_check name file (last_of (OfWheel file)) project ≡ Ok tt → IsLine format.Requirements (source_line name (OfWheel file))
-file_is name file project is_name taken =
-    let three = both _ _ taken in
-    let two = both _ _ three.0 in
-    let one = both _ _ two.0 in
-    located_line name file.location.url file.location.path None (hashes_option file.hashes) is_name one.0 refl (hashes_are file.hashes one.1)
+    located_line name (source_location source).url (source_location source).path (source_subdirectory source) (hashes_option (source_hashes source)) is_name
+    one.0 (both _ _ one.1).0 (hashes_are (source_hashes source) two.1)
 
 -- the form that has a line of a source
 abbrev form_of : PlanPart → PlanFormat
@@ -225,9 +219,9 @@ source_is : (part : PlanPart) (name : List ℕ) (source : SourceValue) (project 
     → source_check name source (last_of source) project ≡ Ok tt → IsLine (form_of part) (source_line name source)
 source_is Hashed name (OfVcs vcs) project has is_name taken = cc has
 source_is Hashed name (OfDirectory directory) project has is_name taken = cc has
-source_is Hashed name (OfArchive archive) project has is_name taken = archive_is name archive project is_name taken
-source_is Hashed name (OfWheel file) project has is_name taken = file_is name file project is_name taken
-source_is Hashed name (OfSdist file) project has is_name taken = file_is name file project is_name taken
+source_is Hashed name (OfArchive archive) project has is_name taken = hashed_is name (OfArchive archive) project is_name taken
+source_is Hashed name (OfWheel file) project has is_name taken = hashed_is name (OfWheel file) project is_name taken
+source_is Hashed name (OfSdist file) project has is_name taken = hashed_is name (OfSdist file) project is_name taken
 source_is Local name (OfVcs vcs) project has is_name taken = checkout_is name vcs is_name taken
 source_is Local name (OfDirectory directory) project has is_name taken = directory_is directory taken
 source_is Local name (OfArchive archive) project has is_name taken = cc has

@@ -1,12 +1,12 @@
 -- What is exported: the sources of a plan, or all that a lock names, each with its entry.
-use Rattle.std.specs.Prelude.{ℕ, ◌+◌, ◌++◌, Bool, true, false, codes, List, [], ◌∷◌, map}
-use Rattle.std.specs.Prelude.{Option, Some, None, option_map}
+use Rattle.std.specs.Prelude.{ℕ, ◌+◌, ◌++◌, codes, List, [], ◌∷◌, map, if◌then◌else◌}
+use Rattle.std.specs.Prelude.{Option, None, option_map}
 use Rattle.std.specs.List.{find, flat_map}
 use Rattle.std.specs.Option.{option_map_or}
 use Rattle.std.specs.Str.{bytes_eq}
 use Rattle.pylock_readers.specs.Entry.{EntryValue, file_name}
-use Rattle.pylock_core.specs.Session.Picks.{SourceValue, OfVcs, OfDirectory, OfArchive, OfWheel}
-use Rattle.pylock_core.specs.Session.Picks.{OfSdist, source_in, sources}
+use Rattle.pylock_core.specs.Session.Picks.{SourceValue, is_unhashed, source_file, source_hashes}
+use Rattle.pylock_core.specs.Session.Picks.{source_in, source_location, sources}
 use Rattle.pylock_core.specs.Session.State.{State, entry_at}
 use Rattle.pylock_core.specs.declared.answer.Pick.{Pick}
 use Rattle.pylock_exports.specs.FileNames.{last_part}
@@ -40,28 +40,12 @@ sources_from number (entry ∷ entries) =
 
 -- ---- what a source has
 
--- a checkout or a directory, which is no file and has no hash
-abbrev pub is_unhashed : SourceValue → Bool
-is_unhashed (OfVcs vcs) = true
-is_unhashed (OfDirectory directory) = true
-is_unhashed (OfArchive archive) = false
-is_unhashed (OfWheel wheel) = false
-is_unhashed (OfSdist sdist) = false
-
 -- where a file is fetched from
 abbrev pub url_of : SourceValue → Option (List ℕ)
-url_of (OfVcs vcs) = None
-url_of (OfDirectory directory) = None
-url_of (OfArchive archive) = archive.location.url
-url_of (OfWheel wheel) = wheel.location.url
-url_of (OfSdist sdist) = sdist.location.url
+url_of source = if is_unhashed source then None else (source_location source).url
 
 abbrev pub path_of : SourceValue → Option (List ℕ)
-path_of (OfVcs vcs) = None
-path_of (OfDirectory directory) = None
-path_of (OfArchive archive) = archive.location.path
-path_of (OfWheel wheel) = wheel.location.path
-path_of (OfSdist sdist) = sdist.location.path
+path_of source = if is_unhashed source then None else (source_location source).path
 
 -- the path of a file that has no URL
 abbrev pub path_alone : SourceValue → Option (List ℕ)
@@ -73,19 +57,7 @@ last_of source = last_part (url_of source) (path_of source)
 
 -- that of an archive is what its URL ends in, else its path
 abbrev pub file_name_of_source : SourceValue → Option (List ℕ)
-file_name_of_source (OfVcs vcs) = None
-file_name_of_source (OfDirectory directory) = None
-file_name_of_source (OfArchive archive) = last_of (OfArchive archive)
-file_name_of_source (OfWheel wheel) = file_name wheel
-file_name_of_source (OfSdist sdist) = file_name sdist
-
--- pairs of algorithm and value
-abbrev pub hashes_of : SourceValue → List (List ℕ × List ℕ)
-hashes_of (OfVcs vcs) = []
-hashes_of (OfDirectory directory) = []
-hashes_of (OfArchive archive) = archive.hashes
-hashes_of (OfWheel wheel) = wheel.hashes
-hashes_of (OfSdist sdist) = sdist.hashes
+file_name_of_source source = option_map_or file_name (source_file source) (last_of source)
 
 -- the value of an algorithm among hashes
 abbrev pub hash_of : List ℕ → List (List ℕ × List ℕ) → Option (List ℕ)
@@ -93,4 +65,4 @@ hash_of algorithm hashes =
     option_map (λ hash. hash.1) (find (λ hash. bytes_eq hash.0 algorithm) hashes)
 
 abbrev pub sha256_of : SourceValue → Option (List ℕ)
-sha256_of source = hash_of (codes "sha256") (hashes_of source)
+sha256_of source = hash_of (codes "sha256") (source_hashes source)

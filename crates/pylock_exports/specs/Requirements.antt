@@ -2,20 +2,20 @@
 -- "Requirements File Format"): what has hashes, and checkouts and directories. They are to be given
 -- with `--no-deps`, and their paths are meant from the lock's folder.
 use Rattle.std.specs.Prelude.{ℕ, Bool, true, false, ◌&&◌, ◌||◌, ◌++◌, not, codes, List, [], ◌∷◌}
-use Rattle.std.specs.Prelude.{Option, Some, None, is_none, unwrap_or, option_and_then, filter}
-use Rattle.std.specs.Prelude.{Result, Ok, Err, ⊤, if◌then◌else◌}
+use Rattle.std.specs.Prelude.{Option, Some, None, is_none, is_some, unwrap_or, option_and_then}
+use Rattle.std.specs.Prelude.{Result, Ok, Err, ⊤, filter, if◌then◌else◌}
 use Rattle.std.specs.Option.{option_map_or}
 use Rattle.std.specs.Str.{bytes_eq}
 use Rattle.pytext.specs.Bytes.{starts}
 use Rattle.pytext.specs.Results.{◌>>=◌}
-use Rattle.pylock_readers.specs.Entry.{ArchiveValue, DirectoryValue, FileValue, VcsValue}
-use Rattle.pylock_readers.specs.Entry.{file_name}
+use Rattle.pylock_readers.specs.Entry.{DirectoryValue, VcsValue}
 use Rattle.pylock_readers.specs.Entry.FileName.{is_slash}
-use Rattle.pylock_core.specs.Session.Picks.{SourceValue, OfVcs, OfDirectory, OfArchive, OfWheel}
-use Rattle.pylock_core.specs.Session.Picks.{OfSdist}
+use Rattle.pylock_core.specs.Session.Picks.{SourceValue, OfVcs, OfDirectory, OfSdist, is_unhashed}
+use Rattle.pylock_core.specs.Session.Picks.{source_file, source_file_name, source_hashes}
+use Rattle.pylock_core.specs.Session.Picks.{source_location, source_subdirectory}
 use Rattle.pylock_exports.specs.FileNames.{ends, ends_as_file, is_wheel_end, last_step}
 use Rattle.pylock_exports.specs.FileNames.{project_check, sdist_project, wheel_project}
-use Rattle.pylock_exports.specs.Listed.{ListedValue, hash_of, is_unhashed, last_of}
+use Rattle.pylock_exports.specs.Listed.{ListedValue, hash_of, last_of}
 use Rattle.pylock_exports.specs.Parts.{Check, any_url_check, checkout_url_check, commit_check}
 use Rattle.pylock_exports.specs.Parts.{directory_path_check, end_check, hash_check}
 use Rattle.pylock_exports.specs.Parts.{kind_check, missing, name_check, path_check, require}
@@ -69,33 +69,28 @@ is_same_text (Some a) (Some b) = bytes_eq a b
 is_same_text (Some a) None = false
 is_same_text None b = false
 
--- a wheel or an sdist, by what it ends in and by the project that this says: what is written ends
--- in its file name, which is of the entry's project
-abbrev pub file_check : List ℕ → FileValue → (last project : Option (List ℕ)) → Check
-file_check name file last project =
-    place_check file.location.url file.location.path last
-    >>= (λ _. hashes_check file.hashes)
-    >>= (λ _. require field.FileName reason.OtherName (is_same_text last (file_name file)))
-    >>= (λ _. project_check name project)
-
 -- a subdirectory is written behind a URL
-abbrev pub archive_subdirectory_check : ArchiveValue → Check
-archive_subdirectory_check archive =
-    where_there subdirectory_check archive.subdirectory
-    >>= (λ _. require field.Subdirectory reason.NoUrl (is_none archive.subdirectory
-    || not (is_relative archive.location.url archive.location.path)))
+abbrev pub inner_check : SourceValue → Check
+inner_check source =
+    where_there subdirectory_check (source_subdirectory source)
+    >>= (λ _. require field.Subdirectory reason.NoUrl (is_none (source_subdirectory source)
+    || not (is_relative (source_location source).url (source_location source).path)))
 
--- what ends as a wheel does is one of the entry's project
-abbrev pub archive_name_check : List ℕ → (last project : Option (List ℕ)) → Check
-archive_name_check name last project =
-    if is_wheel_end last then project_check name project else Ok tt
+-- what is written of a wheel or an sdist ends in its file name, which is of the entry's project; so
+-- is an archive that ends as a wheel does
+abbrev pub own_project_check : List ℕ → SourceValue → (last project : Option (List ℕ)) → Check
+own_project_check name source last project =
+    if is_some (source_file source) || is_wheel_end last then project_check name project
+    else Ok tt
 
-abbrev pub archive_check : List ℕ → ArchiveValue → (last project : Option (List ℕ)) → Check
-archive_check name archive last project =
-    place_check archive.location.url archive.location.path last
-    >>= (λ _. archive_subdirectory_check archive)
-    >>= (λ _. hashes_check archive.hashes)
-    >>= (λ _. archive_name_check name last project)
+abbrev pub hashed_check : List ℕ → SourceValue → (last project : Option (List ℕ)) → Check
+hashed_check name source last project =
+    place_check (source_location source).url (source_location source).path last
+    >>= (λ _. inner_check source)
+    >>= (λ _. hashes_check (source_hashes source))
+    >>= (λ _. require field.FileName reason.OtherName (is_none (source_file source)
+    || is_same_text last (source_file_name source)))
+    >>= (λ _. own_project_check name source last project)
 
 -- ---- what has none
 
@@ -130,18 +125,13 @@ directory_check directory =
 
 -- the project that the file name of a wheel or an sdist says, and of an archive that is a wheel
 abbrev pub project_of : SourceValue → Option (List ℕ)
-project_of (OfVcs vcs) = None
-project_of (OfDirectory directory) = None
-project_of (OfArchive archive) = option_and_then wheel_project (last_of (OfArchive archive))
-project_of (OfWheel wheel) = option_and_then wheel_project (last_of (OfWheel wheel))
 project_of (OfSdist sdist) = option_and_then sdist_project (last_of (OfSdist sdist))
+project_of source = option_and_then wheel_project (last_of source)
 
 abbrev pub source_check : List ℕ → SourceValue → (last project : Option (List ℕ)) → Check
 source_check name (OfVcs vcs) last project = vcs_check vcs
 source_check name (OfDirectory directory) last project = directory_check directory
-source_check name (OfArchive archive) last project = archive_check name archive last project
-source_check name (OfWheel wheel) last project = file_check name wheel last project
-source_check name (OfSdist sdist) last project = file_check name sdist last project
+source_check name source last project = hashed_check name source last project
 
 abbrev pub parts_check : ListedValue → Check
 parts_check s =
@@ -203,21 +193,16 @@ directory_line directory =
     (if directory.editable then codes "-e " else []) ++ path_text directory.path
     ++ option_map_or (λ path. codes "/" ++ path) directory.subdirectory []
 
-abbrev pub archive_line : List ℕ → ArchiveValue → List ℕ
-archive_line name archive =
-    location_text name archive.location.url archive.location.path archive.subdirectory
-    ++ hashes_option archive.hashes
-
-abbrev pub file_line : List ℕ → FileValue → List ℕ
-file_line name file =
-    location_text name file.location.url file.location.path None ++ hashes_option file.hashes
+abbrev pub hashed_line : List ℕ → SourceValue → List ℕ
+hashed_line name source =
+    location_text name (source_location source).url (source_location source).path
+    (source_subdirectory source)
+    ++ hashes_option (source_hashes source)
 
 abbrev pub source_line : List ℕ → SourceValue → List ℕ
 source_line name (OfVcs vcs) = vcs_line name vcs
 source_line name (OfDirectory directory) = directory_line directory
-source_line name (OfArchive archive) = archive_line name archive
-source_line name (OfWheel wheel) = file_line name wheel
-source_line name (OfSdist sdist) = file_line name sdist
+source_line name source = hashed_line name source
 
 abbrev pub requirement_line : ListedValue → List ℕ
 requirement_line s = source_line s.entry.name s.source

@@ -4,7 +4,7 @@ ghost use Rattle.std.specs.Prelude.{◌≡◌};
 ghost use Rattle.std.specs.Option.{option_copied};
 ghost use Rattle.pylock_readers.specs.Text.{text_pairs};
 ghost use Rattle.pylock_core.specs.Session.Picks.{lent_source};
-ghost use Rattle.pylock_exports.specs.Listed.{hash_of, hashes_of, sha256_of};
+ghost use Rattle.pylock_exports.specs.Listed.{hash_of, sha256_of};
 
 use pylock_core::PickedSource;
 
@@ -27,9 +27,5 @@ pub(crate) fn hash_of<'a>(algorithm: &str, hashes: &'a [Hash]) -> Option<&'a str
 pub(crate) fn sha256_of(source: PickedSource<'_>) -> Option<&str>
     ensures { option_copied result ≡ sha256_of (lent_source source.entry) }
 {
-    match source {
-        PickedSource::Archive(archive) => hash_of("sha256", archive.hashes()),
-        PickedSource::Wheel(file) | PickedSource::Sdist(file) => hash_of("sha256", file.hashes()),
-        _ => None,
-    }
+    hash_of("sha256", source.hashes())
 }

@@ -7,7 +7,7 @@ ghost use Rattle.pylock_exports.specs.Inner.Lent.{all_lent, lent};
 ghost use Rattle.pylock_exports.specs.Texts.{entry_of, first_left, is_left_out, left_out};
 ghost use Rattle.pylock_exports.specs.Texts.{shown_left};
 
-use crate::listed::{Listed, is_unhashed};
+use crate::listed::Listed;
 use crate::lists::is_left;
 use pylock_command::PlanFormat;
 use pylock_core::PickedSource;
@@ -40,8 +40,8 @@ fn is_left_out(
     ensures { IfOk result (λ left. left ≡ is_left_out form (lent_source source.entry)) }
 {
     match form {
-        PlanFormat::Requirements => Ok(is_unhashed(source)),
-        PlanFormat::RequirementsLocal => Ok(!is_unhashed(source)),
+        PlanFormat::Requirements => Ok(source.is_unhashed()),
+        PlanFormat::RequirementsLocal => Ok(!source.is_unhashed()),
         PlanFormat::Files(form) => is_left(alloc, form, source),
     }
 }

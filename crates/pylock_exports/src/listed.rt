@@ -4,9 +4,9 @@ ghost use Rattle.std.specs.Prelude.{◌≡◌, ◌++◌, IfOk, OnOk, map, option
 ghost use Rattle.std.specs.Option.{option_copied};
 ghost use Rattle.pylock_core.specs.Session.Picks.{lent_named, lent_source, sources};
 ghost use Rattle.pylock_exports.specs.Inner.Lent.{all_lent, lent};
-ghost use Rattle.pylock_exports.specs.Listed.{file_name_of_source, is_unhashed, last_of, listed};
-ghost use Rattle.pylock_exports.specs.Listed.{path_alone, path_of, picked_source, plan_sources};
-ghost use Rattle.pylock_exports.specs.Listed.{sources_from, url_of};
+ghost use Rattle.pylock_exports.specs.Listed.{file_name_of_source, last_of, listed, path_alone};
+ghost use Rattle.pylock_exports.specs.Listed.{path_of, picked_source, plan_sources, sources_from};
+ghost use Rattle.pylock_exports.specs.Listed.{url_of};
 
 use crate::file_names::last_part;
 use pylock_core::{Entry, NamedSource, Pick, PickedSource, Session, sources};
@@ -105,31 +105,24 @@ fn push_named<'a>(
     Ok(())
 }
 
-/// Whether a source is a checkout or a directory, which is no file and has no hash.
-pub(crate) fn is_unhashed(source: PickedSource<'_>) -> bool
-    ensures { result ≡ is_unhashed (lent_source source.entry) }
-{
-    matches!(source, PickedSource::Vcs(_) | PickedSource::Directory(_))
-}
-
 /// Where a file is fetched from.
 pub(crate) fn url_of(source: PickedSource<'_>) -> Option<&str>
     ensures { option_copied result ≡ url_of (lent_source source.entry) }
 {
-    match source {
-        PickedSource::Vcs(_) | PickedSource::Directory(_) => None,
-        PickedSource::Archive(archive) => archive.url(),
-        PickedSource::Wheel(file) | PickedSource::Sdist(file) => file.url(),
+    if source.is_unhashed() {
+        None
+    } else {
+        source.url()
     }
 }
 
 fn path_of(source: PickedSource<'_>) -> Option<&str>
     ensures { option_copied result ≡ path_of (lent_source source.entry) }
 {
-    match source {
-        PickedSource::Vcs(_) | PickedSource::Directory(_) => None,
-        PickedSource::Archive(archive) => archive.path(),
-        PickedSource::Wheel(file) | PickedSource::Sdist(file) => file.path(),
+    if source.is_unhashed() {
+        None
+    } else {
+        source.path()
     }
 }
 
@@ -159,10 +152,9 @@ pub(crate) fn file_name_of(
     ensures { IfOk result (λ name. option_map string_bytes name
         ≡ file_name_of_source (lent_source source.entry)) }
 {
-    match source {
-        PickedSource::Vcs(_) | PickedSource::Directory(_) => Ok(None),
-        PickedSource::Archive(_) => last_of(alloc, source),
-        PickedSource::Wheel(file) | PickedSource::Sdist(file) => owned(alloc, file.file_name()),
+    match source.file() {
+        Some(file) => owned(alloc, file.file_name()),
+        None => last_of(alloc, source),
     }
 }
 

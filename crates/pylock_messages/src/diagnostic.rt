@@ -79,6 +79,24 @@ impl Diagnostic {
         Ok(diagnostic)
     }
 
+    /// The same place, where the line says these words of the file. It takes memory for the line.
+    fn saying(self, alloc: Global, words: &str) -> Result<Diagnostic, AllocError> {
+        let mut diagnostic = self;
+        let file = diagnostic.file.as_deref().unwrap_or("");
+        let line = format!(in alloc; "{file}: {words}")?;
+        diagnostic.message = visible_text(alloc, line.as_str())?;
+        Ok(diagnostic)
+    }
+
+    /// The same place, where the line has these words behind it. It takes memory for the line.
+    pub fn followed_by(self, alloc: Global, words: &str) -> Result<Diagnostic, AllocError> {
+        let mut diagnostic = self;
+        let before = diagnostic.message.as_str();
+        let line = format!(in alloc; "{before}; {words}")?;
+        diagnostic.message = visible_text(alloc, line.as_str())?;
+        Ok(diagnostic)
+    }
+
     /// The line for a person, without LF. It takes no memory.
     pub fn message(&self) -> &str
         ensures { result.now ≡ self.now.message }
@@ -143,5 +161,17 @@ impl Diagnostic {
         ensures { option_copied result ≡ self.now.key }
     {
         self.key.as_deref()
+    }
+}
+
+/// The same place, where the line says these words of the file; without words it stays.
+pub(crate) fn saying(
+    alloc: Global,
+    told: Option<Diagnostic>,
+    words: Option<&str>,
+) -> Result<Option<Diagnostic>, AllocError> {
+    match (told, words) {
+        (Some(diagnostic), Some(words)) => Ok(Some(diagnostic.saying(alloc, words)?)),
+        (told, _) => Ok(told),
     }
 }

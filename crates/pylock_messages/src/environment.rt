@@ -1,6 +1,7 @@
 //! Why an environment is refused.
 
-use crate::diagnostic::Diagnostic;
+use crate::diagnostic::{Diagnostic, saying};
+use crate::other_file::other_than_json;
 use crate::platform::{PLATFORMS, meant_platform};
 use crate::shown_value::ShownValue;
 use crate::syntax::{not_text, wrong_json};
@@ -52,7 +53,10 @@ pub fn environment_diagnostic(
     };
     match Value::from_str(alloc, text) {
         Ok(value) => wrong_part(alloc, name, wrong_value(&value, refusal)),
-        Err(fault) => wrong_json(alloc, name, text, fault),
+        Err(fault) => {
+            let told = wrong_json(alloc, name, text, fault)?;
+            saying(alloc, told, other_than_json(alloc, text)?)
+        }
     }
 }
 

@@ -16,6 +16,7 @@ mod environment;
 mod lock;
 mod one_line;
 mod one_line_json;
+mod other_file;
 mod platform;
 mod shown_value;
 mod sources;
@@ -28,3 +29,4 @@ pub use environment::{
     environment_diagnostic, environment_message, target_diagnostic, target_message,
 };
 pub use lock::{lock_diagnostic, lock_message};
+pub use other_file::begins_like_json;

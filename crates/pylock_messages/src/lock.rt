@@ -1,7 +1,8 @@
 //! Why a lock is refused.
 
-use crate::diagnostic::Diagnostic;
+use crate::diagnostic::{Diagnostic, saying};
 use crate::entry::wrong_entry;
+use crate::other_file::{other_than_lock, other_than_toml};
 use crate::syntax::{not_text, wrong_toml};
 use crate::value_form::ValueForm;
 use crate::wrong_part::{Part, WrongPart, wrong_part};
@@ -40,8 +41,14 @@ pub fn lock_diagnostic(
         Err(fault) => return not_text(alloc, name, fault.valid_up_to()),
     };
     match toml::table_from_str(alloc, text) {
-        Ok(document) => document_diagnostic(alloc, name, &document, refusal),
-        Err(fault) => wrong_toml(alloc, name, text, fault),
+        Ok(document) => {
+            let told = document_diagnostic(alloc, name, &document, refusal)?;
+            saying(alloc, told, other_than_lock(text, &document))
+        }
+        Err(fault) => {
+            let told = wrong_toml(alloc, name, text, fault)?;
+            saying(alloc, told, other_than_toml(text))
+        }
     }
 }
 

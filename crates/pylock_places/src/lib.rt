@@ -1,11 +1,10 @@
 //! How places and file names of a lock are shown: with `***` for what opens them, the user and each
 //! value of the query. And whether a URL has such, and is of HTTPS.
 //!
-//! What an archive is called in a finding, from `crates/pylock_audit/src/source.rt`:
+//! What a file without a hash is called in a finding, from `crates/pylock_audit/src/source.rt`:
 //!
 //! ```rust
-//! let place = shown_place(alloc, archive.path(), archive.url())?;
-//! joined(alloc, "archive ", place.as_str())
+//! push_plain(list, source_text(alloc, source)?)
 //! ```
 #![tactic(auto)]
 
@@ -17,6 +16,6 @@ mod url;
 
 pub use file_name::shown_file_name;
 pub use query::has_secret;
-pub use shown::{file_label, shown_place};
+pub use shown::{file_label, shown_place, source_label, source_text};
 pub use text::joined;
 pub use url::{has_credentials, is_https, is_safe_remote};

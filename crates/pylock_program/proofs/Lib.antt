@@ -1,5 +1,4 @@
 pub mod ChoicesLemmas
-pub mod FilesLemmas
 pub mod LineLemmas
 pub mod OpeningLemmas
 pub mod ReplyLemmas

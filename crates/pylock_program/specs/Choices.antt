@@ -11,10 +11,9 @@ use Rattle.pywheel_core.specs.Texts.{cut_at}
 use Rattle.pylock_command.specs.declared.choice.Choice.{Choice}
 use Rattle.pylock_command.specs.declared.choice.Choice.TheVariants as choice
 use Rattle.pylock_core.specs.Session.Names.{name_change}
-use Rattle.pylock_core.specs.Session.State.{State, apply}
+use Rattle.pylock_core.specs.Session.State.{State, after_edits}
 use Rattle.pylock_core.specs.declared.edit.Edit.{Edit}
 use Rattle.pylock_core.specs.declared.edit.Edit.TheVariants as edit
-use Rattle.pylock_core.specs.declared.edit.EditError.{EditError}
 use Rattle.pylock_core.specs.declared.edit.NameChange.TheVariants.{AddExtra, AddGroup, DropGroup}
 use Rattle.pylock_core.specs.declared.edit.Policy.{Policy as FilePolicy}
 use Rattle.pylock_core.specs.declared.edit.Policy.TheVariants.{Wheel, Source}
@@ -62,11 +61,6 @@ edits_of state (choice.NoBinary name) = policies state Source name.now
 edits_of state (choice.Set text) = set_variable text.now
 
 -- ---- the state after options
-
--- the state after edits, one after another, or the first refusal
-abbrev pub after_edits : List Edit → State → Result State EditError
-after_edits [] state = Ok state
-after_edits (edit ∷ edits) state = apply edit state >>= after_edits edits
 
 -- the state after an option, where that isn't refused
 abbrev pub after_choice : Choice → State → Option State

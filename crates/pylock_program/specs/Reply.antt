@@ -32,7 +32,7 @@ use Rattle.pywheel_core.specs.declared.error.SdistError.TheVariants as sdist
 use Rattle.pywheel_core.specs.declared.error.WheelError.{WheelError}
 use Rattle.pywheel_core.specs.declared.error.WheelError.TheVariants as wheel
 use Rattle.pylock_readers.specs.Environment.{EnvironmentRead}
-use Rattle.pylock_readers.specs.Target.{target_refusal, target_text}
+use Rattle.pylock_readers.specs.Target.{target_refusal}
 use Rattle.pywheel_core.specs.Target.Reading.{target_of}
 use Rattle.pywheel_core.specs.Target.Value.{TargetValue}
 use Rattle.pywheel_core.specs.declared.error.TargetError.{TargetError}
@@ -44,6 +44,7 @@ use Rattle.pylock_command.specs.declared.form.Form.TheVariants.{Lines, Json}
 use Rattle.pylock_readers.specs.Entry.{EntryValue}
 use Rattle.pylock_audit.specs.Audit.{findings_of}
 use Rattle.pylock_documents.specs.Documents.{files_rows}
+use Rattle.pylock_documents.specs.Environment.{target_text}
 use Rattle.pylock_documents.specs.Texts.{requirement_rows, sdist_rows, specifiers_text, wheel_rows}
 use Rattle.pylock_json.specs.Json.{there, truth}
 use Rattle.pylock_messages.specs.Diagnostic.{DiagnosticValue}

@@ -1,22 +1,21 @@
 //! The options of `plan` and `explain`: the edits that each means.
 
-ghost use Rattle.std.specs.Prelude.{◌≡◌, ◌++◌, ◌∷◌, [], IfOk, IsTrue, Ok, OnOk, Some};
+ghost use Rattle.std.specs.Prelude.{◌≡◌, ◌++◌, ◌∷◌, [], IfOk, OnOk, Some};
 ghost use Rattle.std.specs.Prelude.{map, option_map, string_bytes};
 ghost use Rattle.std.specs.Option.{option_copied};
 ghost use Rattle.std.specs.Result.{result_ok};
 ghost use Rattle.pywheel_core.specs.Texts.{cut_at};
 ghost use Rattle.pylock_command.specs.Choices.{option_words};
 ghost use Rattle.pyver_core.specs.Name.{normal_name};
-ghost use Rattle.pylock_core.specs.Session.Names.{after_names};
-ghost use Rattle.pylock_core.specs.Session.State.{apply};
-ghost use Rattle.pylock_program.specs.Choices.{after_choice, after_choices, after_edits};
+ghost use Rattle.pylock_core.specs.Session.State.{after_edits, in_turn};
+ghost use Rattle.pylock_program.specs.Choices.{after_choice, after_choices};
 ghost use Rattle.pylock_program.specs.Choices.{edit_of_name, edits_of, name_edit, policies};
 ghost use Rattle.pylock_program.specs.Choices.{set_variable};
 ghost use Rattle.pylock_program.specs.declared.choices.NameEdit.TheVariants as name_edits;
-ghost use Rattle.pylock_program.specs.Inner.Chosen.{edits_in, state_if, state_or_refused};
+ghost use Rattle.pylock_program.specs.Inner.Chosen.{state_if, state_or_refused};
 
 use pylock_command::Choice;
-use pylock_core::laws::same_policy_changes_nothing;
+use pylock_core::laws::names_are_edited_in_turn;
 use pylock_core::{Edit, EditError, NameChange, Policy, Session};
 use pymark_core::{Change, Var};
 use pytext::Text;
@@ -41,64 +40,27 @@ pub(crate) fn make_choices<'a>(
     Ok(None)
 }
 
-/// Makes the edits of an option, and answers whether it is accepted.
-#[tactic(auto, using(crate::proofs::ChoicesLemmas::names_made))]
+/// Makes the edit of an option, and answers whether it is accepted.
 fn make_choice(alloc: Global, session: &mut Session, choice: Choice<'_>) -> Result<bool, AllocError>
     ensures { IfOk result (λ is_made. after_choice choice.entry session.old.state
         ≡ state_if is_made session.new.state) }
 {
-    match edits_of(alloc, session, choice)? {
-        Some(Edits::OfNames(change, names)) => make_names(session, change, names),
-        Some(Edits::Each(edits)) => make_edits(session, edits),
+    match edit_of(alloc, session, choice)? {
+        Some(edit) => make_edit(session, edit),
         None => Ok(false),
     }
 }
 
-/// Makes the changes for these names as one edit, and answers whether it is accepted.
-fn make_names(
-    session: &mut Session,
-    change: NameChange,
-    names: Vec<NormalName>,
-) -> Result<bool, AllocError>
-    ensures { IfOk result (λ is_made. result_ok (after_names change names.items session.old.state)
+/// Makes an edit, and answers whether it is accepted.
+fn make_edit(session: &mut Session, edit: Edit) -> Result<bool, AllocError>
+    ensures { IfOk result (λ is_made. result_ok (after_edits (in_turn edit) session.old.state)
         ≡ state_if is_made session.new.state) }
 {
-    match session.edit_names(change, names) {
+    names_are_edited_in_turn();
+    match session.edit(edit) {
         Ok(_) => Ok(true),
         Err(EditError::Memory) => Err(AllocError),
         Err(_) => Ok(false),
-    }
-}
-
-/// Makes edits, one after another, up to the first that is refused; answers whether none is. One
-/// that would change nothing isn't made.
-fn make_edits(session: &mut Session, edits: Vec<Edit>) -> Result<bool, AllocError>
-    ensures { IfOk result (λ is_made. result_ok (after_edits edits.items session.old.state)
-        ≡ state_if is_made session.new.state) }
-{
-    for edit in edits {
-        if changes_nothing(session, &edit) {
-            continue;
-        }
-        match session.edit(edit) {
-            Ok(_) => {}
-            Err(EditError::Memory) => return Err(AllocError),
-            Err(_) => return Ok(false),
-        }
-    }
-    Ok(true)
-}
-
-/// Whether the edit gives a name the policy that it has. The entries of one name may be many, and
-/// `--only-binary :all:` names each of them, so they are judged once.
-fn changes_nothing(session: &Session, edit: &Edit) -> bool
-    ensures { IsTrue result → apply edit.now session.now.state ≡ Ok session.now.state }
-{
-    same_policy_changes_nothing();
-    match edit {
-        Edit::Policy(_, Policy::Any) => false,
-        Edit::Policy(name, policy) => session.policy(name) == *policy,
-        _ => false,
     }
 }
 
@@ -112,7 +74,7 @@ enum NameEdit {
 impl NameEdit {
     /// The edit of this name, in normal form.
     fn of(self, alloc: Global, name: &str) -> Result<Edit, AllocError>
-        ensures { IfOk result (λ edit. edit ≡ name_edit self name.now) }
+        ensures { IfOk result (λ edit. in_turn edit ≡ name_edit self name.now ∷ []) }
     {
         let name = NormalName::new(alloc, name)?;
         Ok(match self {
@@ -122,22 +84,9 @@ impl NameEdit {
     }
 }
 
-/// The edits that an option means.
-#[derive(Drop)]
-enum Edits {
-    /// One change for each of the names, which is made as one edit.
-    OfNames(NameChange, Vec<NormalName>),
-    /// These.
-    Each(Vec<Edit>),
-}
-
-/// The edits that an option means; none where its text is none.
-fn edits_of(
-    alloc: Global,
-    session: &Session,
-    choice: Choice<'_>,
-) -> Result<Option<Edits>, AllocError>
-    ensures { IfOk result (λ edits. option_map edits_in edits
+/// The edit that an option means; none where its text is none.
+fn edit_of(alloc: Global, session: &Session, choice: Choice<'_>) -> Result<Option<Edit>, AllocError>
+    ensures { IfOk result (λ edit. option_map in_turn edit
         ≡ edits_of session.now.state choice.entry) }
 {
     match choice {
@@ -162,8 +111,8 @@ fn edits_of(
         }
         Choice::Group(name) => edit_of_name(alloc, NameEdit::Change(NameChange::AddGroup), name),
         Choice::NoGroup(name) => edit_of_name(alloc, NameEdit::Change(NameChange::DropGroup), name),
-        Choice::OnlyBinary(name) => policy_edits(alloc, session, Policy::Wheel, name),
-        Choice::NoBinary(name) => policy_edits(alloc, session, Policy::Source, name),
+        Choice::OnlyBinary(name) => policy_edit(alloc, session, Policy::Wheel, name),
+        Choice::NoBinary(name) => policy_edit(alloc, session, Policy::Source, name),
         Choice::Set(text) => set_variable(alloc, text),
     }
 }
@@ -175,15 +124,15 @@ fn changes_of(
     change: NameChange,
     names: &[String],
     others: &[String],
-) -> Result<Option<Edits>, AllocError>
-    ensures { IfOk result (λ edits. option_map edits_in edits
+) -> Result<Option<Edit>, AllocError>
+    ensures { IfOk result (λ edit. option_map in_turn edit
         ≡ Some (map (name_edit (name_edits.Change change)) (map string_bytes names.now)
         ++ map (name_edit (name_edits.Change change)) (map string_bytes others.now))) }
 {
     let mut normal = Vec::with_capacity(alloc, names.len())?;
     push_normal(alloc, &mut normal, names)?;
     push_normal(alloc, &mut normal, others)?;
-    Ok(Some(Edits::OfNames(change, normal)))
+    Ok(Some(Edit::Names(change, normal)))
 }
 
 /// Pushes these names in normal form.
@@ -202,55 +151,51 @@ fn push_normal(
 }
 
 /// The edit of the text, where that is a name.
-fn edit_of_name(alloc: Global, edit: NameEdit, text: &str) -> Result<Option<Edits>, AllocError>
-    ensures { IfOk result (λ edits. option_map edits_in edits
+fn edit_of_name(alloc: Global, edit: NameEdit, text: &str) -> Result<Option<Edit>, AllocError>
+    ensures { IfOk result (λ edits. option_map in_turn edits
         ≡ edit_of_name edit text.now) }
 {
     if !is_name(text) {
         return Ok(None);
     }
-    one_edit(alloc, edit.of(alloc, text)?)
+    Ok(Some(edit.of(alloc, text)?))
 }
 
-/// The edits of `--only-binary` and `--no-binary`.
-fn policy_edits(
+/// The edit of `--only-binary` and `--no-binary`.
+#[tactic(auto, using(crate::proofs::ChoicesLemmas::policies_of_names))]
+fn policy_edit(
     alloc: Global,
     session: &Session,
     policy: Policy,
     text: &str,
-) -> Result<Option<Edits>, AllocError>
-    ensures { IfOk result (λ edits. option_map edits_in edits
+) -> Result<Option<Edit>, AllocError>
+    ensures { IfOk result (λ edit. option_map in_turn edit
         ≡ policies session.now.state policy text.now) }
 {
     if text == ":all:" {
-        return each_policy_edits(alloc, session, policy);
+        let names = entry_names(alloc, session)?;
+        return Ok(Some(Edit::Policies(names, policy)));
     }
     edit_of_name(alloc, NameEdit::Policy(policy), text)
 }
 
-/// The policy for the name of each entry.
-fn each_policy_edits(
-    alloc: Global,
-    session: &Session,
-    policy: Policy,
-) -> Result<Option<Edits>, AllocError>
-    ensures { IfOk result (λ edits. option_map edits_in edits
-        ≡ Some (map (λ entry. name_edit (name_edits.Policy policy) entry.1.name)
-        session.now.state.entries)) }
+/// The name of each entry.
+fn entry_names(alloc: Global, session: &Session) -> Result<Vec<NormalName>, AllocError>
+    ensures { IfOk result (λ names. names.items
+        ≡ map (λ entry. normal_name entry.1.name) session.now.state.entries) }
 {
-    let mut edits = Vec::with_capacity(alloc, session.entries().len())?;
+    let mut names = Vec::with_capacity(alloc, session.entries().len())?;
     for entry in session.entries() {
         if let Some(entry) = entry {
-            edits.push(NameEdit::Policy(policy).of(alloc, entry.name())?)?;
+            names.push(NormalName::new(alloc, entry.name())?)?;
         }
     }
-    Ok(Some(Edits::Each(edits)))
+    Ok(names)
 }
 
 /// The edit of `--set`, whose text is cut at its first `=`.
-fn set_variable(alloc: Global, text: &str) -> Result<Option<Edits>, AllocError>
-    ensures { IfOk result (λ edits. option_map edits_in edits
-        ≡ set_variable text.now) }
+fn set_variable(alloc: Global, text: &str) -> Result<Option<Edit>, AllocError>
+    ensures { IfOk result (λ edit. option_map in_turn edit ≡ set_variable text.now) }
 {
     let Some((name, value)) = split_at_equals(text) else {
         return Ok(None);
@@ -259,7 +204,7 @@ fn set_variable(alloc: Global, text: &str) -> Result<Option<Edits>, AllocError>
         return Ok(None);
     };
     let value = Text::copy_of(alloc, value)?;
-    one_edit(alloc, Edit::Environment(Change::Set(variable, value)))
+    Ok(Some(Edit::Environment(Change::Set(variable, value))))
 }
 
 /// What stands before and after the first `=`.
@@ -267,14 +212,6 @@ pub(crate) fn split_at_equals(text: &str) -> Option<(&str, &str)>
     ensures { option_map (λ cut. (cut.0.now, cut.1.now)) result ≡ cut_at 61 text.now }
 {
     text.split_once('=')
-}
-
-fn one_edit(alloc: Global, edit: Edit) -> Result<Option<Edits>, AllocError>
-    ensures { IfOk result (λ edits. option_map edits_in edits ≡ Some (edit ∷ [])) }
-{
-    let mut edits = Vec::new(alloc);
-    edits.push(edit)?;
-    Ok(Some(Edits::Each(edits)))
 }
 
 /// The word of an option, without its dashes, and its text, where it has one.

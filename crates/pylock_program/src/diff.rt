@@ -241,22 +241,24 @@ fn open_both<'a>(alloc: Global, plans: Plans<'a>) -> Result<(Session, Session), 
     let new = lock_on(alloc, Side::New, plans.sides.new)?;
     let (environment, tags) = read_environment(alloc, plans.machine)?;
     let sessions = start_both(alloc, (old, new), environment, tags)?;
-    choose_both(alloc, sessions, plans.choices, plans.sides.old.path)
+    let paths = (plans.sides.old.path, plans.sides.new.path);
+    choose_both(alloc, sessions, plans.choices, paths)
 }
 
-/// Makes the edits of the options on the old session, and then on the new one.
+/// Makes the edits of the options on the old session, and then on the new one. `paths` are those of
+/// their locks.
 fn choose_both<'a>(
     alloc: Global,
     sessions: (Session, Session),
     choices: &[Choice<'a>],
-    path: &str,
+    paths: (&str, &str),
 ) -> Result<(Session, Session), Refusal<'a>>
     ensures { GivesOr (λ both. (both.0.state, both.1.state)) result
         (both_chosen choices.now (sessions.0.state, sessions.1.state)) }
 {
     let (mut old, mut new) = sessions;
-    choose(alloc, &mut old, choices, path)?;
-    choose(alloc, &mut new, choices, path)?;
+    choose(alloc, &mut old, choices, paths.0)?;
+    choose(alloc, &mut new, choices, paths.1)?;
     Ok((old, new))
 }
 

@@ -5,7 +5,9 @@ pub(crate) mod export;
 pub(crate) mod fault;
 pub(crate) mod file;
 pub(crate) mod options;
+mod reason;
 pub(crate) mod refusal;
+mod text;
 
 use pylock_run::{Sink, write_all};
 use pylock_shown::push_visible;

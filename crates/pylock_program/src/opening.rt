@@ -16,6 +16,7 @@ ghost use Rattle.pylock_run.specs.declared.report.opening.OpenError.TheVariants 
 
 use crate::choices::make_choices;
 use crate::file::{Inputs, MachineInput};
+use crate::notes::options::NamedLock;
 use crate::refusal::Refusal;
 use pylock_audit::{Findings, StrictError, read_strict};
 use pylock_command::{Choice, Question};
@@ -141,6 +142,9 @@ pub(crate) fn choose<'a>(
 {
     match make_choices(alloc, session, choices)? {
         None => Ok(()),
-        Some(choice) => Err(Refusal::of_option(alloc, choice, path)),
+        Some(choice) => {
+            let head = session.head();
+            Err(Refusal::of_option(alloc, choice, NamedLock { path, head }))
+        }
     }
 }

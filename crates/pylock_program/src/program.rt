@@ -8,7 +8,8 @@ ghost use Rattle.pylock_run.specs.Report.Print.{Prints};
 
 use crate::diff::compare;
 use crate::failure::{Failure, program_end};
-use crate::host::Host;
+use crate::host::{Host, Outputs};
+use crate::notes::tell_bytes;
 use crate::reply::{answer_text, audit_lock, judge_marker, list_files, print_target};
 use crate::select::run_select;
 use crate::show::answer_question;
@@ -17,6 +18,9 @@ use pylock_run::{Files, Sink, Source, print};
 use std::alloc::Global;
 
 const GREETING: &[u8] = b"pylock 1\n";
+
+/// What a person is told besides.
+const USAGE: &[u8] = b"Usage: pylock <COMMAND> ..; try 'pylock --help'\n";
 
 /// What stands on standard error behind `pylock: ` before a task is done where standard input is a
 /// terminal: that edit lines are awaited, if the task reads them.
@@ -42,7 +46,7 @@ pub fn perform<F: Files, R: Source, W: Sink, N: Sink>(
         (W.value host.old.outputs.writer) (W.value host.new.outputs.writer) result }
 {
     match task {
-        Task::Bare => print_greeting(&mut host.outputs.writer),
+        Task::Bare => greet(&mut host.outputs),
         Task::Show(question) => answer_question(alloc, &question, host),
         Task::Select(opening, form) => run_select(alloc, opening, form, host),
         Task::Files(lock, output) => list_files(alloc, lock, output, host),
@@ -56,9 +60,15 @@ pub fn perform<F: Files, R: Source, W: Sink, N: Sink>(
     }
 }
 
-fn print_greeting<W: Sink>(writer: &mut W) -> Result<u8, Failure>
-    ensures prints { Tells (Prints greeting (W.value writer.old) (W.value writer.new)) result }
+/// Prints the name of the program, and tells how it is called.
+fn greet<W: Sink, N: Sink>(outputs: &mut Outputs<W, N>) -> Result<u8, Failure>
+    ensures prints { Tells (Prints greeting
+        (W.value outputs.old.writer) (W.value outputs.new.writer)) result }
     ensures ample { result ≢ Err failure.Memory }
 {
-    program_end(print(GREETING, 0, writer))
+    let end = program_end(print(GREETING, 0, &mut outputs.writer));
+    if end.is_ok() {
+        tell_bytes(&mut outputs.notes, USAGE);
+    }
+    end
 }

@@ -16,7 +16,7 @@ ghost use Rattle.pylock_run.specs.declared.report.opening.OpenError.TheVariants 
 use crate::choices::option_words;
 use crate::file::{FileBytes, Inputs, MachineInput};
 use crate::host::Outputs;
-use crate::notes::options::option_diagnostic;
+use crate::notes::options::{NamedLock, option_diagnostic};
 use crate::notes::refusal::{environment_told, unopened_told};
 use crate::notes::{tell, tell_bytes};
 use crate::opening::Unopened;
@@ -164,11 +164,11 @@ impl<'a> Refusal<'a> {
         Refusal { cause, told }
     }
 
-    /// An option is refused. `path` is that of the lock.
-    pub(crate) fn of_option(alloc: Global, choice: Choice<'a>, path: &str) -> Refusal<'a>
+    /// An option for this lock is refused.
+    pub(crate) fn of_option(alloc: Global, choice: Choice<'a>, lock: NamedLock<'_>) -> Refusal<'a>
         ensures { result.cause ≡ cause.Option choice.entry }
     {
-        let told = option_diagnostic(alloc, path, choice);
+        let told = option_diagnostic(alloc, lock, choice);
         let cause = Cause::Option(choice);
         Refusal { cause, told }
     }

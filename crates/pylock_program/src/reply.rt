@@ -35,8 +35,8 @@ use crate::text::audit::write_findings;
 use crate::text::files::push_entries;
 use pylock_audit::{LockFinding, read_audited};
 use pylock_command::{FilesOutput, Form, Machine, TargetWords, TextQuestion};
-use pylock_core::{Entry, EnvError, FaultCode, Lock, LockError, environment_text};
-use pylock_documents::{files_document, push_document};
+use pylock_core::{Entry, EnvError, FaultCode, Lock, LockError};
+use pylock_documents::{environment_text, files_document, push_document};
 use pylock_run::{Files, OpenError, RunFault, Sink, Source, print};
 use pymark_core::{Environment, EvalFault, Marker, MarkerError};
 use pywheel_core::{Target, TargetError};
@@ -288,7 +288,7 @@ pub(crate) fn judge_marker<F: Files, R: Source, W: Sink, N: Sink>(
     program_end(write_marker(alloc, form, marker, &machine, &mut host.outputs))
 }
 
-/// A person is told what was expected where the marker is refused.
+/// A person is told what was expected where the marker is refused, and why it has no value.
 #[tactic(auto, using(crate::proofs::OpeningLemmas::refused))]
 fn write_marker<W: Sink, N: Sink>(
     alloc: Global,
@@ -305,7 +305,7 @@ fn write_marker<W: Sink, N: Sink>(
         Ok(status) => {
             let end = print(&out, status, &mut outputs.writer);
             if let Ok(REFUSED_TEXT) = end {
-                tell_marker(alloc, &mut outputs.notes, text);
+                tell_marker(alloc, &mut outputs.notes, text, machine);
             }
             end
         }

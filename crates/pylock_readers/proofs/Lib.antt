@@ -8,6 +8,5 @@ pub mod ElementLemmas
 mod DistinctLemmas
 pub mod Joined
 mod TextLemmas
-pub mod JsonText
 pub mod TargetLemmas
 pub mod NeverMemory

@@ -1,15 +1,12 @@
--- The environment of a target, as a machine of its kind has it, and its text.
-use Rattle.std.specs.Prelude.{ℕ, ◌++◌, List, [], ◌∷◌, codes, decimal, map}
+-- The environment of a target, as a machine of its kind has it.
+use Rattle.std.specs.Prelude.{ℕ, ◌++◌, List, codes, decimal, map}
 use Rattle.std.specs.Prelude.{Option, Some, None, Result, Ok, Err}
 use Rattle.std.specs.FinSet as set
-use Rattle.serde_json.specs.Data.{Data}
-use Rattle.serde_json.specs.Written.{compact_text}
-use Rattle.pylock_json.specs.Json.{Row, maybe, object_of, texts_of}
 use Rattle.pymark_core.specs.Environment.{EnvironmentValue}
-use Rattle.pymark_core.specs.Variables.{variable_name, variables}
+use Rattle.pymark_core.specs.Variables.{variables}
 use Rattle.pymark_core.specs.declared.variable.Var.{Var}
 use Rattle.pymark_core.specs.declared.variable.Var.TheVariants as var
-use Rattle.pywheel_core.specs.Tag.{TagValue, tag_text}
+use Rattle.pywheel_core.specs.Tag.{TagValue}
 use Rattle.pywheel_core.specs.Target.Names.{os_name, platform_machine, platform_system}
 use Rattle.pywheel_core.specs.Target.Names.{sys_platform}
 use Rattle.pywheel_core.specs.Target.Reading.{target_of}
@@ -70,21 +67,3 @@ environment_of (Err e) = Err (target_refusal e)
 -- the environment and the tags of PYTHON and PLATFORM
 unfoldable pub target_env_of : List ℕ → List ℕ → Result (EnvironmentValue × List TagValue) EnvError
 target_env_of python platform = environment_of (target_of python platform)
-
--- ---- its text
-
--- the object `environment`, which has no member for a variable without a text
-abbrev pub variable_row : TargetValue → Var → Row
-variable_row target variable = (variable_name variable, maybe (variable_text target variable))
-
-abbrev pub variable_rows : TargetValue → List Row
-variable_rows target = map (variable_row target) variables
-
-unfoldable pub target_data : TargetValue → Data
-target_data target = object_of (
-    (codes "environment", Some (object_of (variable_rows target)))
-    ∷ (codes "tags", Some (texts_of (map tag_text (target_tags target)))) ∷ [])
-
--- JSON without white space, and LF
-unfoldable pub target_text : TargetValue → List ℕ
-target_text target = compact_text (target_data target) ++ codes "\n"

@@ -30,4 +30,4 @@ pub use entry::{
 pub use environment::{EnvironmentInput, read_environment};
 pub use error::{EntryError, EntryKey, EnvError, HeadKey, LockError};
 pub use lock::{Head, HeadNames, Lock, MOST_ENTRIES, Packages, read_document_without};
-pub use target::{environment_text, read_target, target_environment};
+pub use target::{read_target, target_environment};

@@ -1,22 +1,15 @@
-//! The environment of a target, and its text.
-ghost use Rattle.std.specs.Prelude.{◌≡◌, IfOk, OnOk, fold, map, string_bytes};
+//! The environment of a target.
+ghost use Rattle.std.specs.Prelude.{◌≡◌, IfOk, OnOk, fold};
 ghost use Rattle.std.specs.Option.{option_copied};
-ghost use Rattle.serde_json.specs.View.{members_view, view as data_of};
 ghost use Rattle.pytext.specs.Agreement.{Gives};
-ghost use Rattle.pylock_json.specs.Json.{members_of, texts_of, with_rows};
-ghost use Rattle.pywheel_core.specs.Tag.{tag_text};
 ghost use Rattle.pywheel_core.specs.Target.Tags.{target_tags};
 ghost use Rattle.pylock_readers.specs.Environment.{with_text};
-ghost use Rattle.pylock_readers.specs.Target.{target_env_of};
-ghost use Rattle.pylock_readers.specs.Target.{target_environment, target_text, variable_rows};
-ghost use Rattle.pylock_readers.specs.Target.{variable_row, variable_text};
+ghost use Rattle.pylock_readers.specs.Target.{target_env_of, target_environment, variable_text};
 
 use crate::error::EnvError;
-use pylock_json::{Json, List, Object};
 use pymark_core::{Environment, Var};
-use pywheel_core::{Tag, TagList, Target, TargetError};
+use pywheel_core::{TagList, Target, TargetError};
 use std::alloc::{AllocError, Global};
-use std::fmt::Write;
 use std::marker::Model;
 
 /// Reads PYTHON and PLATFORM, as `3.12` and `manylinux_2_28_x86_64`, and gives the environment and
@@ -49,37 +42,6 @@ pub fn target_environment(
     let environment = texts.environment(alloc)?;
     let tags = TagList::of_target(alloc, target)?;
     Ok((environment, tags))
-}
-
-/// The environment of a target as a text that [`read_environment`](crate::read_environment) takes:
-/// JSON without white space, and LF. It takes memory for the text and, while it is made, for its
-/// value and the list of tags.
-#[tactic(auto, unfolding(crate::specs::Target::target_data, crate::specs::Target::target_text))]
-pub fn environment_text(alloc: Global, target: &Target) -> Result<String, AllocError>
-    ensures { IfOk result (λ text. string_bytes text ≡ target_text target.now) }
-{
-    let variables = VariableTexts::of(alloc, target)?.object(alloc)?;
-    let tags = TagList::of_target(alloc, target)?;
-    let mut object = Object::new(alloc);
-    object.put(alloc, "environment", variables.into_json())?;
-    object.put(alloc, "tags", tag_texts(alloc, tags.tags())?)?;
-    let mut text = object.into_json().to_text(alloc)?;
-    text.push_str("\n")?;
-    Ok(text)
-}
-
-/// The texts of the tags.
-fn tag_texts(alloc: Global, tags: &[Tag]) -> Result<Json, AllocError>
-    ensures { IfOk result (λ json. data_of json ≡ texts_of (map tag_text tags.now)) }
-{
-    let mut texts = List::new(alloc);
-    let mut text = String::new(alloc);
-    for tag in tags {
-        text.clear();
-        write!(text, "{tag}")?;
-        texts.push_text(alloc, text.as_str())?;
-    }
-    Ok(texts.into_json())
 }
 
 /// The texts of the variables of a target.
@@ -174,30 +136,5 @@ impl VariableTexts {
             Some(text) => environment.set(variable, text),
             None => Ok(()),
         }
-    }
-
-    /// The object with a member for each variable that has a text.
-    fn object(&self, alloc: Global) -> Result<Object, AllocError>
-        ensures { IfOk result (λ object.
-            members_view object ≡ members_of (variable_rows self.now)) }
-    {
-        let mut object = Object::new(alloc);
-        self.put_all(alloc, &mut object, &Var::all())?;
-        Ok(object)
-    }
-
-    fn put_all(
-        &self,
-        alloc: Global,
-        object: &mut Object,
-        variables: &[Var],
-    ) -> Result<(), AllocError>
-        ensures { OnOk result (members_view object.new
-            ≡ with_rows (map (variable_row self.now) variables.now) (members_view object.old)) }
-    {
-        for variable in variables {
-            object.put_maybe(alloc, variable.name(), self.text(*variable))?;
-        }
-        Ok(())
     }
 }

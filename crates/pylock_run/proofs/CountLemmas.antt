@@ -1,5 +1,5 @@
 -- Lemmas on how many lines a text has.
-use Rattle.std.proofs.Common.{◌≡◌, ℕ, zero, suc, ◌+◌, ◌/◌, ◌%◌, ◌∙◌, ◌==◌, Bool, true, false, nat_lt, List, [], ◌∷◌, ◌++◌, length, slice_get, Option, Some, None, cond, ap, sym, refl, arith}
+use Rattle.std.proofs.Common.{◌≡◌, ℕ, zero, suc, ◌+◌, ◌/◌, ◌%◌, ◌∙◌, ◌==◌, Bool, true, false, nat_lt, List, [], ◌∷◌, ◌++◌, length, Option, option_map, Some, None, cond, ap, sym, refl, arith}
 use Rattle.std.specs.Fmt.{decimal, digit_glyph, digits, digits_onto}
 use Rattle.std.specs.List.{All, AllByRecursion, Contains, count_by, flat_map}
 use Rattle.std.specs.Option.{option_map_or}
@@ -8,15 +8,14 @@ use Rattle.std.specs.Str.{bytes_eq}
 use Rattle.std.proofs.lemmas.Bool.{eq-eqb, ne_eqb}
 use Rattle.std.proofs.lemmas.List.Elements.{All-head, All-tail}
 use Rattle.std.proofs.lemmas.List.Sums.{sum_by-append, sum_by-cons}
-use Rattle.pylock_readers.specs.Entry.{ArchiveValue, DirectoryValue, EntryValue, FileValue, VcsValue, file_name, place_of}
-use Rattle.pylock_core.specs.Session.Picks.{IsPickAmong}
+use Rattle.pylock_readers.specs.Entry.{EntryValue, place_of}
+use Rattle.pylock_core.specs.Session.Picks.{IsPickAmong, SourceValue, OfVcs, OfDirectory, OfArchive, OfWheel, OfSdist, source_file_name, source_hashes, source_in, source_location, source_subdirectory, source_vcs, source_word}
 use Rattle.pylock_core.specs.Session.State.{State, entry_at}
 use Rattle.pylock_core.specs.declared.answer.Answer.TheVariants.{Plan}
 use Rattle.pylock_core.specs.declared.answer.Pick.{Pick}
 use Rattle.pylock_core.specs.declared.answer.PickSource.{PickSource}
-use Rattle.pylock_core.specs.declared.answer.PickSource.TheVariants as source
 use Rattle.pylock_run.specs.Text.Field.{escape_byte, escaped_text, field, line_of, fields_text}
-use Rattle.pylock_run.specs.Text.Plan.{answer_text, archive_fields, directory_fields, file_fields, hashes_text, pick_text, plan_line, revision, source_fields, vcs_fields}
+use Rattle.pylock_run.specs.Text.Plan.{answer_text, hashes_text, pick_text, plan_line, revision, source_fields}
 
 abbrev is_lf : ℕ → Bool
 is_lf b = b == 10
@@ -98,36 +97,33 @@ line_one : (first : List ℕ) (fields : List (List ℕ)) → lines first ≡ 0 �
 line_one first fields none h =
     adds (first ++ fields_text fields) (codes "\n") 0 1 (no_lines first (fields_text fields) none (tabbed_none fields h)) refl
 
-vcs_none : (vcs : VcsValue) → NoLines (vcs_fields vcs)
-vcs_none vcs = (refl, (refl, (field_none (Some (place_of vcs.location)), (refl, (field_none (Some (revision vcs)), (field_none vcs.subdirectory, tt))))))
+word_none : (source : SourceValue) → lines (source_word source) ≡ 0
+word_none (OfVcs vcs) = refl
+word_none (OfDirectory directory) = one_of directory.editable (codes "editable") (codes "directory") 0 refl refl
+word_none (OfArchive archive) = refl
+word_none (OfWheel file) = refl
+word_none (OfSdist file) = refl
 
-directory_none : (directory : DirectoryValue) → NoLines (directory_fields directory)
-directory_none directory =
-    (one_of directory.editable (codes "editable") (codes "directory") 0 refl refl, (refl, (field_none (Some directory.path), (refl, (refl, (field_none directory.subdirectory, tt))))))
+source_none : (source : SourceValue) → NoLines (source_fields source)
+source_none source = (
+  word_none source,
+  (
+    field_none (source_file_name source),
+    (
+      field_none (Some (place_of (source_location source))),
+      (field_none (hashes_text (source_hashes source)), (field_none (option_map revision (source_vcs source)), (field_none (source_subdirectory source), tt))),
+    ),
+  ),
+)
 
-archive_none : (archive : ArchiveValue) → NoLines (archive_fields archive)
-archive_none archive =
-    (refl, (refl, (field_none (Some (place_of archive.location)), (field_none (hashes_text archive.hashes), (refl, (field_none archive.subdirectory, tt))))))
-
-file_none : (kind : List ℕ) (file : FileValue) → lines kind ≡ 0 → NoLines (file_fields kind file)
-file_none kind file none =
-    (none, (field_none (file_name file), (field_none (Some (place_of file.location)), (field_none (hashes_text file.hashes), (refl, (refl, tt))))))
-
-maybe_none : {X : Type 0} (fields : X → List (List ℕ)) → ((x : X) → NoLines (fields x)) → (o : Option X) → NoLines (option_map_or fields o [])
-maybe_none fields each None = tt
-maybe_none fields each (Some x) = each x
-
-source_none : (entry : EntryValue) (s : PickSource) → NoLines (source_fields entry s)
-source_none entry source.Vcs = maybe_none vcs_fields vcs_none entry.vcs
-source_none entry source.Directory = maybe_none directory_fields directory_none entry.directory
-source_none entry source.Archive = maybe_none archive_fields archive_none entry.archive
-source_none entry (source.Wheel position) = maybe_none (file_fields (codes "wheel")) (λ file. file_none (codes "wheel") file refl) (slice_get entry.wheels position)
-source_none entry source.Sdist = maybe_none (file_fields (codes "sdist")) (λ file. file_none (codes "sdist") file refl) entry.sdist
+picked_none : (source : Option SourceValue) → NoLines (option_map_or source_fields source [])
+picked_none None = tt
+picked_none (Some source) = source_none source
 
 plan_line_one : (n : ℕ) (s : PickSource) (entry : EntryValue) → lines (plan_line n s entry) ≡ 1
 plan_line_one n s entry =
-    line_one (decimal n) (field (Some entry.name) ∷ field entry.version ∷ source_fields entry s) (decimal_none n)
-    (field_none (Some entry.name), (field_none entry.version, source_none entry s))
+    line_one (decimal n) (field (Some entry.name) ∷ field entry.version ∷ option_map_or source_fields (source_in entry s) []) (decimal_none n)
+    (field_none (Some entry.name), (field_none entry.version, picked_none (source_in entry s)))
 
 -- ---- the lines of a plan
 

@@ -2,18 +2,12 @@
 use Rattle.std.proofs.Common.{◌≡◌, ℕ, List, [], ◌∷◌, ◌++◌, false, cond, Some, refl, ap, sym, ◌∙◌, append_assoc, append-nil, map, eqb, ◌&&◌}
 use Rattle.std.specs.List.{join_with_byte}
 use Rattle.std.specs.Str.{bytes_eq}
-use Rattle.std.specs.Prelude.{codes, Option, None, option_map, slice_get}
+use Rattle.std.specs.Prelude.{codes}
 use Rattle.std.proofs.Math.Bool.{and-false}
 use Rattle.std.proofs.lemmas.List.Concat.{flat_map-append}
 use Rattle.pylock_run.specs.Text.Field.{escape_byte, escaped_text, field}
-use Rattle.pylock_run.specs.Text.Plan.{hash_text, hashes_text, vcs_fields, directory_fields, archive_fields, file_fields, source_fields}
+use Rattle.pylock_run.specs.Text.Plan.{hash_text, hashes_text}
 use Rattle.pylock_run.specs.Inner.Hashes.{escaped_hash, more_hashes}
-use Rattle.std.specs.Option.{option_map_or}
-use Rattle.pylock_readers.specs.Entry.{EntryValue}
-use Rattle.pylock_core.specs.Session.Picks.{SourceValue, OfVcs, OfDirectory, OfArchive, OfWheel, OfSdist, source_in}
-use Rattle.pylock_core.specs.declared.answer.PickSource.{PickSource}
-use Rattle.pylock_core.specs.declared.answer.PickSource.TheVariants as source
-use Rattle.pylock_run.specs.Text.Picked.{picked_fields}
 
 -- a text with another mark in it is not `-`
 not_dash : (mark : ℕ) (prefix rest : List ℕ) → eqb mark 45 ≡ false → bytes_eq (prefix ++ mark ∷ rest) (45 ∷ []) ≡ false
@@ -64,21 +58,3 @@ field_revision kind commit =
     let other : bytes_eq text (45 ∷ []) ≡ false = ap (λ t. bytes_eq t (45 ∷ [])) (append_assoc kind (codes "@") commit) ∙ not_dash 64 kind commit refl in
     ap (λ t. cond t (codes "\\-") (escaped_text text)) other
     ∙ flat_map-append escape_byte (kind ++ codes "@") commit ∙ ap (λ t. t ++ escaped_text commit) (flat_map-append escape_byte kind (codes "@"))
-
--- ---- the fields of a source
-
-made_fields : {X : Type 0} (made : X → SourceValue) (fields : X → List (List ℕ)) → ((x : X) → picked_fields (made x) ≡ fields x)
-    → (o : Option X) → option_map_or picked_fields (option_map made o) [] ≡ option_map_or fields o []
-made_fields made fields same None = refl
-made_fields made fields same (Some x) = same x
-
-named_fields : (entry : EntryValue) (s : PickSource) → option_map_or picked_fields (source_in entry s) [] ≡ source_fields entry s
-named_fields entry source.Vcs = made_fields OfVcs vcs_fields (λ x. refl) entry.vcs
-named_fields entry source.Directory = made_fields OfDirectory directory_fields (λ x. refl) entry.directory
-named_fields entry source.Archive = made_fields OfArchive archive_fields (λ x. refl) entry.archive
-named_fields entry (source.Wheel position) = made_fields OfWheel (file_fields (codes "wheel")) (λ x. refl) (slice_get entry.wheels position)
-named_fields entry source.Sdist = made_fields OfSdist (file_fields (codes "sdist")) (λ x. refl) entry.sdist
-
-pub picked_source : (entry : EntryValue) (s : PickSource) (found : Option SourceValue) → found ≡ source_in entry s
-    → option_map_or picked_fields found [] ≡ source_fields entry s
-picked_source entry s found same = ap (λ o. option_map_or picked_fields o []) same ∙ named_fields entry s

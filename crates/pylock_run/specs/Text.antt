@@ -1,5 +1,4 @@
 -- The printed text of an answer and of a refusal.
 pub mod Field
 pub mod Plan
-pub mod Picked
 pub mod Refusal

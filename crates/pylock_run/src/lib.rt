@@ -44,6 +44,6 @@ pub use stream::{IoFault, Sink, Source};
 pub use text::field::{push_decimal, push_field, push_last_word, push_next_field, push_word};
 pub use text::plan::{push_answer, push_source_line};
 pub use text::refusal::{
-    entry_word, head_word, line_word, push_environment_error, push_lock_error, push_refusal,
-    push_side_error,
+    RefusalWords, environment_words, line_word, lock_words, push_environment_error,
+    push_lock_error, push_refusal, push_side_error,
 };

@@ -1,4 +1,3 @@
-pub mod Inner
 pub mod Kind
 pub mod MarkerPieces
 pub mod Parts

@@ -5,105 +5,15 @@ ghost use Rattle.std.specs.Prelude.{◌≡◌, ◌++◌, ◌∷◌, OnOk};
 ghost use Rattle.std.specs.List.{flat_map};
 ghost use Rattle.std.specs.Option.{option_copied};
 ghost use Rattle.pylock_readers.specs.Text.{text_pair, text_pairs};
-ghost use Rattle.pylock_core.specs.Session.Picks.{OfArchive, OfDirectory, OfVcs, lent_source};
+ghost use Rattle.pylock_core.specs.Session.Picks.{lent_source};
 ghost use Rattle.pylock_run.specs.Text.Field.{fields_text};
-ghost use Rattle.pylock_values.specs.Inner.Lent.{lent_parts};
-ghost use Rattle.pylock_values.specs.Picks.{fault_line, file_parts, hash_fields, name_at, pick_in};
-ghost use Rattle.pylock_values.specs.Picks.{pick_line, pick_text, picks_text, place_text};
-ghost use Rattle.pylock_values.specs.Picks.{source_fields, source_parts, wheel_place};
+ghost use Rattle.pylock_values.specs.Picks.{fault_line, hash_fields, name_at, pick_in, pick_line};
+ghost use Rattle.pylock_values.specs.Picks.{pick_text, picks_text, place_text, source_fields};
+ghost use Rattle.pylock_values.specs.Picks.{wheel_place};
 
-use pylock_core::{
-    Archive, Directory, DistributionFile, Entry, FaultCode, Pick, PickSource, PickedSource,
-    Session, Vcs, directory_word, fault_word,
-};
+use pylock_core::{Entry, FaultCode, Pick, PickSource, PickedSource, Session, fault_word};
 use pylock_run::{push_decimal, push_next_field, push_word};
 use std::alloc::AllocError;
-
-/// What a source says, lent.
-#[derive(Clone, Copy)]
-pub(crate) struct LentParts<'a> {
-    kind: &'a str,
-    file: Option<&'a str>,
-    url: Option<&'a str>,
-    path: Option<&'a str>,
-    vcs: Option<&'a str>,
-    commit: Option<&'a str>,
-    subdirectory: Option<&'a str>,
-    hashes: &'a [(String, String)],
-}
-
-fn vcs_parts(vcs: &Vcs) -> LentParts<'_>
-    ensures { lent_parts result ≡ source_parts (OfVcs vcs.now) }
-{
-    LentParts {
-        kind: "vcs",
-        file: None,
-        url: vcs.url(),
-        path: vcs.path(),
-        vcs: Some(vcs.kind()),
-        commit: Some(vcs.commit_id()),
-        subdirectory: vcs.subdirectory(),
-        hashes: &[],
-    }
-}
-
-fn directory_parts(directory: &Directory) -> LentParts<'_>
-    ensures { lent_parts result ≡ source_parts (OfDirectory directory.now) }
-{
-    LentParts {
-        kind: directory_word(directory),
-        file: None,
-        url: None,
-        path: Some(directory.path()),
-        vcs: None,
-        commit: None,
-        subdirectory: directory.subdirectory(),
-        hashes: &[],
-    }
-}
-
-fn archive_parts(archive: &Archive) -> LentParts<'_>
-    ensures { lent_parts result ≡ source_parts (OfArchive archive.now) }
-{
-    LentParts {
-        kind: "archive",
-        file: None,
-        url: archive.url(),
-        path: archive.path(),
-        vcs: None,
-        commit: None,
-        subdirectory: archive.subdirectory(),
-        hashes: archive.hashes(),
-    }
-}
-
-/// What a wheel or an sdist says.
-fn file_parts<'a>(kind: &'a str, file: &'a DistributionFile) -> LentParts<'a>
-    ensures { lent_parts result ≡ file_parts kind.now file.now }
-{
-    LentParts {
-        kind,
-        file: file.file_name(),
-        url: file.url(),
-        path: file.path(),
-        vcs: None,
-        commit: None,
-        subdirectory: None,
-        hashes: file.hashes(),
-    }
-}
-
-fn source_parts(source: PickedSource<'_>) -> LentParts<'_>
-    ensures { lent_parts result ≡ source_parts (lent_source source.entry) }
-{
-    match source {
-        PickedSource::Vcs(vcs) => vcs_parts(vcs),
-        PickedSource::Directory(directory) => directory_parts(directory),
-        PickedSource::Archive(archive) => archive_parts(archive),
-        PickedSource::Wheel(wheel) => file_parts("wheel", wheel),
-        PickedSource::Sdist(sdist) => file_parts("sdist", sdist),
-    }
-}
 
 /// The place of a wheel among those of its entry, from 1.
 fn wheel_place(entry: &Entry, source: PickSource) -> Option<u64>
@@ -144,7 +54,7 @@ fn push_entry(out: &mut Vec<u8>, pick: &Pick, entry: &Entry) -> Result<(), Alloc
         return Ok(());
     };
     let place = wheel_place(entry, pick.source);
-    push_line(out, u64::from(pick.id), place, entry, &source_parts(source))
+    push_line(out, u64::from(pick.id), place, entry, source)
 }
 
 fn push_line(
@@ -152,17 +62,17 @@ fn push_line(
     number: u64,
     place: Option<u64>,
     entry: &Entry,
-    parts: &LentParts<'_>,
+    source: PickedSource<'_>,
 ) -> Result<(), AllocError>
     ensures { OnOk result (out.new.items
-        ≡ out.old.items ++ pick_line number place entry.now (lent_parts parts.now)) }
+        ≡ out.old.items ++ pick_line number place entry.now (lent_source source.entry)) }
 {
     push_decimal(out, number)?;
-    push_word(out, parts.kind.as_bytes())?;
+    push_word(out, source.word().as_bytes())?;
     push_place(out, place)?;
     push_next_field(out, Some(entry.name()))?;
     push_next_field(out, entry.version())?;
-    push_source(out, parts)?;
+    push_source(out, source)?;
     Ok(out.push(b'\n')?)
 }
 
@@ -178,17 +88,17 @@ fn push_place(out: &mut Vec<u8>, place: Option<u64>) -> Result<(), AllocError>
 }
 
 /// Pushes the fields that stand behind the version.
-fn push_source(out: &mut Vec<u8>, parts: &LentParts<'_>) -> Result<(), AllocError>
+fn push_source(out: &mut Vec<u8>, source: PickedSource<'_>) -> Result<(), AllocError>
     ensures { OnOk result (out.new.items
-        ≡ out.old.items ++ fields_text (source_fields (lent_parts parts.now))) }
+        ≡ out.old.items ++ fields_text (source_fields (lent_source source.entry))) }
 {
-    push_next_field(out, parts.file)?;
-    push_next_field(out, parts.url)?;
-    push_next_field(out, parts.path)?;
-    push_next_field(out, parts.vcs)?;
-    push_next_field(out, parts.commit)?;
-    push_next_field(out, parts.subdirectory)?;
-    push_hashes(out, parts.hashes)
+    push_next_field(out, source.file_name())?;
+    push_next_field(out, source.url())?;
+    push_next_field(out, source.path())?;
+    push_next_field(out, source.vcs_kind())?;
+    push_next_field(out, source.commit_id())?;
+    push_next_field(out, source.subdirectory())?;
+    push_hashes(out, source.hashes())
 }
 
 fn push_hashes(out: &mut Vec<u8>, hashes: &[(String, String)]) -> Result<(), AllocError>

@@ -1,5 +1,5 @@
 # Completes the words of pylock in fish.
-# Made by tools/manual from the texts of help: edit those.
+# Made by tools/make/manual from the texts of help: edit those.
 
 set -g __pylock_awk 'function offer(name) {
     if (name ~ /^[a-z0-9]([a-z0-9-]*[a-z0-9])?$/ && !(name in seen)) {

@@ -1,2 +1,4 @@
 -- The edits of a session.
 pub mod Entries
+pub mod Policies
+pub mod InTurn

@@ -17,7 +17,8 @@ use Rattle.pylock_readers.specs.Entry.{EntryValue}
 use Rattle.pylock_readers.specs.Lock.{HeadValue}
 use Rattle.pylock_core.specs.declared.edit.Edit.{Edit}
 use Rattle.pylock_core.specs.declared.edit.Edit.TheVariants as edit
-use Rattle.pylock_core.specs.Session.State.{State, policy_of}
+use Rattle.pylock_core.specs.Session.Names.{names_key}
+use Rattle.pylock_core.specs.Session.State.{State, is_among, policy_of}
 use Rattle.pylock_core.specs.Session.Steps.{standing, best_wheel, head_fault}
 use Rattle.pylock_readers.specs.Entry.Kinds.{is_any}
 use Rattle.pylock_core.specs.declared.answer.FaultCode.{FaultCode}
@@ -117,12 +118,15 @@ index_of state = map (λ key. readers key state) keys
 -- the numbers of what is judged again after an edit, in increasing order
 abbrev pub touched : Edit → State → List ℕ
 touched (edit.Environment change) state = readers (Marked (changed_key change)) state
+touched (edit.Names change names) state = readers (Marked (names_key change)) state
 touched (edit.Tags tags) state = readers OfTags state
 touched (edit.Add entry) state = (state.last + 1) ∷ []
 touched (edit.Put n entry) state = n ∷ []
 touched (edit.Del n) state = []
 touched (edit.Policy name policy) state =
     numbers_where (λ entry. bytes_eq name entry.name) state.entries
+touched (edit.Policies names policy) state =
+    numbers_where (λ entry. is_among names.items entry.name) state.entries
 
 -- the numbers that the start judges: the head and every entry
 abbrev pub all_numbers : State → List ℕ

@@ -1,13 +1,9 @@
--- Changes of several extras or groups, made as one edit.
-use Rattle.std.specs.Prelude.{ℕ, List, [], ◌∷◌, Result, Ok}
-use Rattle.pytext.specs.Results.{◌>>=◌}
+-- A change of the extras or the groups that are asked for, whatever the name.
+use Rattle.std.specs.Prelude.{ℕ, List}
 use Rattle.pymark_core.specs.declared.change.Change.{Change}
 use Rattle.pymark_core.specs.declared.change.Change.TheVariants as change
 use Rattle.pymark_core.specs.declared.marker.keys.Key.{Key}
 use Rattle.pymark_core.specs.declared.marker.keys.Key.TheVariants.{Extras, Groups}
-use Rattle.pylock_core.specs.Session.State.{State, apply}
-use Rattle.pylock_core.specs.declared.edit.Edit.TheVariants as edit
-use Rattle.pylock_core.specs.declared.edit.EditError.{EditError}
 use Rattle.pylock_core.specs.declared.edit.NameChange.{NameChange}
 use Rattle.pylock_core.specs.declared.edit.NameChange.TheVariants.{AddExtra, DropExtra}
 use Rattle.pylock_core.specs.declared.edit.NameChange.TheVariants.{AddGroup, DropGroup}
@@ -25,9 +21,3 @@ names_key AddExtra = Extras
 names_key DropExtra = Extras
 names_key AddGroup = Groups
 names_key DropGroup = Groups
-
--- the state after the changes for these names, one after another, or the first refusal
-abbrev pub after_names : NameChange → List (List ℕ) → State → Result State EditError
-after_names change [] state = Ok state
-after_names change (name ∷ names) state =
-    apply (edit.Environment (name_change change name)) state >>= after_names change names

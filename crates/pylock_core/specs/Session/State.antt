@@ -8,6 +8,7 @@ use Rattle.std.specs.FinSet as set
 use Rattle.std.specs.List.{enumerate_from, list_any}
 use Rattle.std.specs.Ordering.{nat_cmp}
 use Rattle.std.specs.Str.{bytes_eq}
+use Rattle.pytext.specs.Results.{◌>>=◌}
 use Rattle.pymark_core.specs.Change.{changed}
 use Rattle.pymark_core.specs.Environment.{EnvironmentValue, with_group}
 use Rattle.pymark_core.specs.declared.change.Change.{Change}
@@ -15,6 +16,7 @@ use Rattle.pymark_core.specs.declared.change.Change.TheVariants as change
 use Rattle.pywheel_core.specs.Tag.{TagValue}
 use Rattle.pylock_readers.specs.Entry.{EntryValue}
 use Rattle.pylock_readers.specs.Lock.{HeadValue, LockValue}
+use Rattle.pylock_core.specs.Session.Names.{name_change}
 use Rattle.pylock_core.specs.declared.edit.Edit.{Edit}
 use Rattle.pylock_core.specs.declared.edit.Edit.TheVariants as edit
 use Rattle.pylock_core.specs.declared.edit.Policy.{Policy}
@@ -22,6 +24,7 @@ use Rattle.pylock_core.specs.declared.edit.Policy.TheVariants.{Any, Wheel, Sourc
 use Rattle.pylock_core.specs.declared.edit.EditError.{EditError}
 use Rattle.pylock_core.specs.declared.edit.EditError.TheVariants.{UnknownExtra, UnknownGroup}
 use Rattle.pylock_core.specs.declared.edit.EditError.TheVariants.{NoEntry, TooMany}
+use Rattle.pylock_core.specs.declared.edit.NameChange.{NameChange}
 
 -- the policies that edits gave, by name in normal form; a name that isn't here has `Any`
 abbrev pub Policies : Type 0
@@ -102,6 +105,12 @@ with_policy policies name Any = map_of.remove policies name
 with_policy policies name Wheel = map_of.insert policies name Wheel
 with_policy policies name Source = map_of.insert policies name Source
 
+-- the policies where each of these names, in normal form, has this one
+abbrev pub with_policies : Policies → List (List ℕ) → Policy → Policies
+with_policies policies [] policy = policies
+with_policies policies (name ∷ names) policy =
+    with_policies (with_policy policies name policy) names policy
+
 -- the state with this environment
 abbrev pub in_environment : EnvironmentValue → State → State
 in_environment environment state = record state { environment = environment }
@@ -123,6 +132,17 @@ if_named (change.AddGroup name) state next = if_group name state next
 if_named (change.DropGroup name) state next = if_group name state next
 if_named _ state next = Ok next
 
+-- the state after a change of its environment
+abbrev pub after_change : Change → State → Result State EditError
+after_change change state =
+    if_named change state (in_environment (changed change state.environment) state)
+
+-- the state after the changes for these names, one after another, or the first refusal
+abbrev pub after_names : NameChange → List (List ℕ) → State → Result State EditError
+after_names change [] state = Ok state
+after_names change (name ∷ names) state =
+    after_change (name_change change name) state >>= after_names change names
+
 abbrev pub if_entry : ℕ → State → State → Result State EditError
 if_entry n state next = if is_some (entry_at n state.entries) then Ok next else Err NoEntry
 
@@ -143,8 +163,8 @@ takes_memory _ = true
 
 -- the state after an edit, or why the edit is refused
 abbrev pub apply : Edit → State → Result State EditError
-apply (edit.Environment change) state =
-    if_named change state (in_environment (changed change state.environment) state)
+apply (edit.Environment change) state = after_change change state
+apply (edit.Names change names) state = after_names change names.items state
 apply (edit.Tags tags) state = Ok (record state { tags = tags })
 apply (edit.Add entry) state = with_next entry state
 apply (edit.Put n entry) state =
@@ -152,3 +172,17 @@ apply (edit.Put n entry) state =
 apply (edit.Del n) state = if_entry n state (record state { entries = without n state.entries })
 apply (edit.Policy name policy) state =
     Ok (record state { policies = with_policy state.policies name policy })
+apply (edit.Policies names policy) state =
+    Ok (record state { policies = with_policies state.policies names.items policy })
+
+-- the edits that an edit is: of several names one for each
+abbrev pub in_turn : Edit → List Edit
+in_turn (edit.Names change names) =
+    map (λ name. edit.Environment (name_change change name)) names.items
+in_turn (edit.Policies names policy) = map (λ name. edit.Policy name policy) names.items
+in_turn edit = edit ∷ []
+
+-- the state after edits, one after another, or the first refusal
+abbrev pub after_edits : List Edit → State → Result State EditError
+after_edits [] state = Ok state
+after_edits (edit ∷ edits) state = apply edit state >>= after_edits edits

@@ -1,23 +1,20 @@
 //! What starts a session and what edits it, with the list of what each judges. They alone make such
 //! a list, and nothing takes from one, so no judgement goes untold.
 
-ghost use Rattle.std.specs.Prelude.{◌≡◌, ◌++◌, ◌∷◌, [], IfErr, IfOk, Err, Ok, OnErr, OnOk, length};
+ghost use Rattle.std.specs.Prelude.{◌≡◌, ◌++◌, ◌∷◌, [], IfOk, OnOk, length};
 ghost use Rattle.pylock_core.specs.Inner.Editing.{Leaves};
-ghost use Rattle.pylock_core.specs.Inner.Parts.{IsSession, shown, state_of};
-ghost use Rattle.pylock_core.specs.Session.Judgement.{Marked, all_numbers, readers};
-ghost use Rattle.pylock_core.specs.Session.Names.{after_names, names_key};
+ghost use Rattle.pylock_core.specs.Inner.Parts.{IsSession, state_of};
+ghost use Rattle.pylock_core.specs.Session.Judgement.{all_numbers};
 ghost use Rattle.pylock_core.specs.Session.State.{first};
-ghost use Rattle.pylock_core.specs.declared.edit.EditError.TheVariants.{Memory};
 
-use crate::edit::{Edit, EditError, NameChange};
+use crate::edit::{Edit, EditError};
 use crate::session::editing::entries::{add_entry, append_entry, delete_entry, put_entry};
 use crate::session::editing::environment::{edit_environment, edit_names};
-use crate::session::editing::policies::give_policy;
+use crate::session::editing::policies::{give_policies, give_policy};
 use crate::session::editing::tags::set_tags;
 use crate::session::parts::Parts;
 use pylock_readers::Lock;
 use pymark_core::Environment;
-use pyver_core::NormalName;
 use pywheel_core::TagList;
 use std::alloc::{AllocError, Global};
 use std::marker::Model;
@@ -111,29 +108,6 @@ pub(crate) fn edit_parts(parts: &mut Parts, edit: Edit) -> Result<u64, EditError
     Ok(parts.judged.as_slice().len() as u64)
 }
 
-/// Makes the changes for these names as one edit, and answers how many judgements it made.
-pub(crate) fn edit_names_of(
-    parts: &mut Parts,
-    change: NameChange,
-    names: Vec<NormalName>,
-) -> Result<u64, EditError>
-    requires { IsSession parts.old }
-    ensures session { IsSession parts.new }
-    ensures ok { OnOk result
-        (after_names change names.items (state_of parts.old) ≡ Ok (state_of parts.new)) }
-    ensures judged { OnOk result (parts.new.judged
-        ≡ readers (Marked (names_key change)) (state_of parts.old)) }
-    ensures refused { IfErr result (λ error. (error ≡ Memory → ⊥)
-        → after_names change names.items (state_of parts.old) ≡ Err error) }
-    ensures kept { OnErr result (shown parts.new ≡ shown parts.old) }
-    ensures count { IfOk result (λ judgements. judgements ≡ length parts.new.judged) }
-{
-    let mut judged = Judged::nothing(parts.alloc);
-    edit_names(parts, change, names, &mut judged)?;
-    parts.judged = judged;
-    Ok(parts.judged.as_slice().len() as u64)
-}
-
 /// Makes an edit, of whichever kind.
 fn make_edit(parts: &mut Parts, edit: Edit, judged: &mut Judged) -> Result<(), EditError>
     requires { IsSession parts.old }
@@ -142,10 +116,12 @@ fn make_edit(parts: &mut Parts, edit: Edit, judged: &mut Judged) -> Result<(), E
 {
     match edit {
         Edit::Environment(change) => edit_environment(parts, change, judged),
+        Edit::Names(change, names) => edit_names(parts, change, names, judged),
         Edit::Tags(tags) => set_tags(parts, tags, judged),
         Edit::Add(entry) => add_entry(parts, entry, judged),
         Edit::Put(number, entry) => put_entry(parts, number, entry, judged),
         Edit::Del(number) => delete_entry(parts, number),
         Edit::Policy(name, policy) => give_policy(parts, name, policy, judged),
+        Edit::Policies(names, policy) => give_policies(parts, names, policy, judged),
     }
 }

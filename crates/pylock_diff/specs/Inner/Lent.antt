@@ -1,8 +1,8 @@
--- What stands for values that are lent: texts, rows, items and files of two locks.
+-- What stands for values that are lent: texts, rows, items and sources of two locks.
 use Rattle.std.specs.Prelude.{ℕ, List, [], ◌∷◌, map, Option, Some, None, option_map}
 use Rattle.std.specs.Borrow.{Bor}
 use Rattle.pyver_core.specs.Set.Normal.{set_text}
-use Rattle.pylock_readers.specs.Entry.{ArchiveValue, EntryValue, FileValue}
+use Rattle.pylock_readers.specs.Entry.{EntryValue}
 use Rattle.pylock_core.specs.Session.Picks.{SourceValue, lent_source, sources}
 use Rattle.pylock_core.specs.declared.picked.PickedSource.{PickedSource}
 use Rattle.pylock_diff.specs.Head.{HeadKey}
@@ -37,17 +37,11 @@ lent_items items = map lent_item items
 abbrev pub item_row : Bor (List ℕ) × Item → Row ItemValue
 item_row row = (row.0.now, lent_item row.1)
 
-abbrev pub file_row : Bor (List ℕ) × Bor FileValue → Row FileValue
-file_row row = (row.0.now, row.1.now)
+abbrev pub file_row : Bor (List ℕ) × PickedSource → Row SourceValue
+file_row row = (row.0.now, lent_source row.1)
 
-abbrev pub archive_row : Bor (List ℕ) × Bor ArchiveValue → Row ArchiveValue
-archive_row row = (row.0.now, row.1.now)
-
-abbrev pub lent_files : List (Bor FileValue) → List FileValue
-lent_files files = map (λ file. file.now) files
-
-abbrev pub lent_archives : List (Bor ArchiveValue) → List ArchiveValue
-lent_archives archives = map (λ archive. archive.now) archives
+abbrev pub lent_sources : List PickedSource → List SourceValue
+lent_sources sources = map lent_source sources
 
 abbrev pub lent_keys : List (Bor HeadKey) → List HeadKey
 lent_keys keys = map (λ key. key.now) keys

@@ -1,18 +1,7 @@
--- The edits of an option as the code has them, and how far options are made.
-use Rattle.std.specs.Prelude.{Bool, true, false, List, Option, Some, None, Result, Ok, Err, map}
+-- How far options are made.
+use Rattle.std.specs.Prelude.{Bool, true, false, Option, Some, None, Result, Ok, Err}
 use Rattle.pylock_command.specs.declared.choice.Choice.{Choice}
-use Rattle.pylock_core.specs.Session.Names.{name_change}
 use Rattle.pylock_core.specs.Session.State.{State}
-use Rattle.pylock_core.specs.declared.edit.Edit.{Edit}
-use Rattle.pylock_core.specs.declared.edit.Edit.TheVariants as edit
-use Rattle.pylock_program.specs.declared.choices.Edits.{Edits}
-use Rattle.pylock_program.specs.declared.choices.Edits.TheVariants.{OfNames, Each}
-
--- the edits, one after another
-abbrev pub edits_in : Edits → List Edit
-edits_in (OfNames change names) =
-    map (λ name. edit.Environment (name_change change name)) names.items
-edits_in (Each edits) = edits.items
 
 -- the state that was reached, unless a choice was refused
 abbrev pub state_or_refused : Option Choice → State → Result State Choice

@@ -1,9 +1,9 @@
 //! What a person is told of a fault.
 
+use crate::notes::reason::fault_reason;
 use crate::notes::tell_made;
 use pylock_command::Machine;
 use pylock_core::{Entry, FaultCode, Session, fault_word};
-use pylock_documents::fault_detail;
 use pylock_run::Sink;
 use pymark_core::{EvalFault, Marker, Var};
 use std::alloc::{AllocError, Global};
@@ -30,8 +30,8 @@ fn fault_text(
     let (number, code) = fault;
     let place = place_text(alloc, session, number)?;
     let word = fault_word(code);
-    let mut text = match fault_detail(alloc, session, number, code)? {
-        Some(detail) => format!(in alloc; "{place}: {word}: {detail}")?,
+    let mut text = match fault_reason(alloc, session, number, code)? {
+        Some(reason) => format!(in alloc; "{place}: {word}: {reason}")?,
         None => format!(in alloc; "{place}: {word}")?,
     };
     if matches!(code, FaultCode::MarkerUnset) {

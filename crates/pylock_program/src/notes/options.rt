@@ -4,48 +4,140 @@
 use crate::choices::{option_words, split_at_equals};
 use crate::notes::tell_made;
 use pylock_command::Choice;
-use pylock_core::Session;
+use pylock_core::{Head, Session};
 use pylock_messages::Diagnostic;
 use pylock_run::Sink;
+use pylock_shown::push_hidden;
 use pymark_core::Var;
 use pyver_core::{is_name, normal_name};
 use std::alloc::{AllocError, Global};
 
-/// Why an option is refused, as a value. `lock` is the path of the lock as it was given.
+/// How many extras or groups of a lock are told.
+const MOST_NAMES: usize = 10;
+
+/// The lock that options are for: its path as it was given, and its head.
+#[derive(Clone, Copy)]
+pub(crate) struct NamedLock<'a> {
+    pub(crate) path: &'a str,
+    pub(crate) head: &'a Head,
+}
+
+/// Why an option is refused, as a value.
 pub(crate) fn option_diagnostic(
     alloc: Global,
-    lock: &str,
+    lock: NamedLock<'_>,
     choice: Choice<'_>,
 ) -> Result<Option<Diagnostic>, AllocError> {
     let note = option_note(alloc, lock, choice)?;
     Ok(Some(Diagnostic::of_message(alloc, note.as_str())?))
 }
 
-fn option_note(alloc: Global, lock: &str, choice: Choice<'_>) -> Result<String, AllocError> {
+fn option_note(
+    alloc: Global,
+    lock: NamedLock<'_>,
+    choice: Choice<'_>,
+) -> Result<String, AllocError> {
     let (word, text) = option_words(choice);
     let text = text.unwrap_or("");
     let why = refusal_reason(alloc, lock, choice)?;
     format!(in alloc; "--{word}: `{text}`: {why}")
 }
 
-/// Why an option is refused that is.
-fn refusal_reason(alloc: Global, lock: &str, choice: Choice<'_>) -> Result<String, AllocError> {
+/// Why an option is refused that is: of a name that the lock hasn't, with those that it has.
+fn refusal_reason(
+    alloc: Global,
+    lock: NamedLock<'_>,
+    choice: Choice<'_>,
+) -> Result<String, AllocError> {
+    let (path, head) = (lock.path, lock.head);
     match choice {
-        Choice::Extra(name) if is_name(name) => format!(in alloc; "not an extra of {lock}"),
-        Choice::Group(name) | Choice::NoGroup(name) if is_name(name) => {
-            format!(in alloc; "not a group of {lock}")
+        Choice::Extra(name) if is_name(name) => {
+            let known = known_names(alloc, "extra", extras_of(alloc, head)?)?;
+            format!(in alloc; "not an extra of {path}; {known}")
         }
-        Choice::Set(text) => String::from_str(alloc, set_refusal_reason(text)),
+        Choice::Group(name) | Choice::NoGroup(name) if is_name(name) => {
+            let known = known_names(alloc, "group", groups_of(alloc, head)?)?;
+            format!(in alloc; "not a group of {path}; {known}")
+        }
+        Choice::Set(text) => set_refusal_reason(alloc, text),
         _ => String::from_str(alloc, "not a name"),
     }
 }
 
-fn set_refusal_reason(text: &str) -> &'static str {
-    match split_at_equals(text) {
-        Some(_) => "no such variable",
-        None => "no =",
+fn set_refusal_reason(alloc: Global, text: &str) -> Result<String, AllocError> {
+    if split_at_equals(text).is_none() {
+        return String::from_str(alloc, "no =");
+    }
+    let mut names = Vec::new(alloc);
+    for variable in Var::all() {
+        names.push(variable.name())?;
+    }
+    let names = names.join(alloc, ", ")?;
+    format!(in alloc; "no such variable; the variables are: {names}")
+}
+
+// ---- the names that a lock has
+
+fn extras_of(alloc: Global, head: &Head) -> Result<Vec<&str>, AllocError> {
+    let mut names = Vec::new(alloc);
+    push_known(&mut names, head.extras().as_slice())?;
+    Ok(names)
+}
+
+fn groups_of(alloc: Global, head: &Head) -> Result<Vec<&str>, AllocError> {
+    let mut names = Vec::new(alloc);
+    push_known(&mut names, head.groups().as_slice())?;
+    push_known(&mut names, head.default_groups().as_slice())?;
+    Ok(names)
+}
+
+/// Adds names that aren't there yet, until one more is there than is told.
+fn push_known<'a>(known: &mut Vec<&'a str>, names: &'a [String]) -> Result<(), AllocError> {
+    for name in names {
+        if known.len() > MOST_NAMES {
+            return Ok(());
+        }
+        if !is_known(known, name.as_str()) {
+            known.push(name.as_str())?;
+        }
+    }
+    Ok(())
+}
+
+fn is_known(known: &[&str], name: &str) -> bool {
+    known.iter().any(|other| *other == name)
+}
+
+/// Which names of a kind a lock has, at most as many as are told.
+fn known_names(alloc: Global, kind: &str, names: Vec<&str>) -> Result<String, AllocError> {
+    match names.len() {
+        0 => format!(in alloc; "it has no {kind}s"),
+        1 => {
+            let name = first_names(alloc, &names)?;
+            format!(in alloc; "its only {kind} is {name}")
+        }
+        _ => {
+            let names = first_names(alloc, &names)?;
+            format!(in alloc; "its {kind}s are: {names}")
+        }
     }
 }
+
+/// The names, as they are shown to a person; of many the first.
+fn first_names(alloc: Global, names: &[&str]) -> Result<String, AllocError> {
+    let mut text = String::new(alloc);
+    for (at, name) in names.iter().enumerate() {
+        if at == MOST_NAMES {
+            text.push_str(", ..")?;
+            return Ok(text);
+        }
+        text.push_str(if at == 0 { "" } else { ", " })?;
+        push_hidden(&mut text, name)?;
+    }
+    Ok(text)
+}
+
+// ---- options that are accepted
 
 /// Tells what accepted options may not do as they seem to: a policy for a name that no entry has,
 /// and one of the two variables of Python's version without the other.

@@ -3,7 +3,9 @@
 use crate::file::{FileBytes, Inputs, MachineInput};
 use crate::opening::Unopened;
 use pylock_core::EnvError;
-use pylock_messages::{Diagnostic, environment_diagnostic, lock_diagnostic, target_diagnostic};
+use pylock_messages::{
+    Diagnostic, begins_like_json, environment_diagnostic, lock_diagnostic, target_diagnostic,
+};
 use pylock_run::OpenError;
 use std::alloc::{AllocError, Global};
 
@@ -17,12 +19,28 @@ pub(crate) fn unopened_told(
     match unopened {
         Unopened::Findings(_) => findings_told(alloc, lock),
         Unopened::Refused(OpenError::Lock(error)) => {
-            lock_diagnostic(alloc, lock.path, &lock.bytes, error)
+            let told = lock_diagnostic(alloc, lock.path, &lock.bytes, error)?;
+            beside_file(alloc, told, inputs)
         }
         Unopened::Refused(OpenError::Environment(error)) => {
             environment_told(alloc, error, machine)
         }
         Unopened::Refused(OpenError::Memory) => Ok(None),
+    }
+}
+
+/// What is told of a lock that stands beside the file of an environment: where it seems to be one
+/// itself, that the two may be swapped.
+fn beside_file(
+    alloc: Global,
+    told: Option<Diagnostic>,
+    inputs: Inputs<'_>,
+) -> Result<Option<Diagnostic>, AllocError> {
+    match (told, inputs.machine) {
+        (Some(told), MachineInput::File(_)) if begins_like_json(&inputs.lock.bytes) => {
+            Ok(Some(told.followed_by(alloc, "LOCK and ENV may be swapped")?))
+        }
+        (told, _) => Ok(told),
     }
 }
 

@@ -1,15 +1,13 @@
 //! Every source that a lock names, a line for each.
 
-ghost use Rattle.std.specs.Prelude.{◌≡◌, ◌++◌, IfOk, OnOk, codes, map, option_map};
+ghost use Rattle.std.specs.Prelude.{◌≡◌, ◌++◌, IfOk, OnOk, map};
 ghost use Rattle.std.specs.List.{flat_map};
-ghost use Rattle.pylock_core.specs.Session.Picks.{lent_source};
-ghost use Rattle.pylock_run.specs.Text.Picked.{picked_fields};
-ghost use Rattle.pylock_program.specs.Text.Files.{each_source, files_text, lines_from};
-ghost use Rattle.pylock_program.specs.Text.Files.{optional_source};
-ghost use Rattle.pylock_run.specs.Text.Plan.{file_fields, source_line};
+ghost use Rattle.pylock_core.specs.Session.Picks.{lent_named};
+ghost use Rattle.pylock_run.specs.Text.Plan.{source_fields, source_line};
+ghost use Rattle.pylock_program.specs.Text.Files.{files_text, lines_from, lines_of_entry};
 
 use crate::lines::push_count;
-use pylock_core::{Entry, PickSource, PickedSource};
+use pylock_core::{Entry, NamedSource, PickedSource, sources};
 use pylock_run::push_source_line;
 use std::alloc::{AllocError, Global};
 use std::marker::Model;
@@ -27,12 +25,11 @@ struct SourceLine<'a> {
 impl<'a> Model for SourceLine<'a> {
     ghost use Rattle.std.specs.Prelude.{List, ℕ};
     ghost use Rattle.pylock_core.specs.Session.Picks.{lent_source};
-    ghost use Rattle.pylock_run.specs.Text.Picked.{picked_fields};
-    ghost use Rattle.pylock_run.specs.Text.Plan.{source_line};
+    ghost use Rattle.pylock_run.specs.Text.Plan.{source_fields, source_line};
 
     ghost Value = { List ℕ };
 
-    ghost view = { λ n. source_line n.number n.entry.now (picked_fields (lent_source n.source)) };
+    ghost view = { λ n. source_line n.number n.entry.now (source_fields (lent_source n.source)) };
 }
 
 /// Pushes `files K` and a line for each source of each entry. Takes memory for the lines and for a
@@ -55,62 +52,41 @@ fn source_lines<'a>(alloc: Global, entries: &'a [Entry]) -> Result<Vec<SourceLin
 {
     let mut lines = Vec::new(alloc);
     for (position, entry) in entries.iter().enumerate() {
-        push_sources(&mut lines, position + 1, entry)?;
+        push_sources(alloc, &mut lines, position + 1, entry)?;
     }
     Ok(lines)
 }
 
 /// Adds the sources of an entry.
-#[tactic(auto, using(crate::proofs::FilesLemmas::sources_named))]
+#[tactic(auto, unfolding(crate::specs::Text::Files::lines_of_entry))]
 fn push_sources<'a>(
+    alloc: Global,
     lines: &mut Vec<SourceLine<'a>>,
     number: usize,
     entry: &'a Entry,
 ) -> Result<(), AllocError>
     ensures { OnOk result (lines.new.items
-        ≡ lines.old.items ++ map (source_line number entry.now) (each_source entry.now)) }
+        ≡ lines.old.items ++ lines_of_entry number entry.now) }
 {
-    push_source(lines, number, entry, PickSource::Vcs.of(entry))?;
-    push_source(lines, number, entry, PickSource::Directory.of(entry))?;
-    push_source(lines, number, entry, PickSource::Archive.of(entry))?;
-    push_wheels(lines, number, entry)?;
-    push_source(lines, number, entry, PickSource::Sdist.of(entry))
+    let named = sources(alloc, entry)?;
+    push_named(lines, number, entry, named.as_slice())
 }
 
-/// Adds a source of an entry, where it is there.
-fn push_source<'a>(
+fn push_named<'a>(
     lines: &mut Vec<SourceLine<'a>>,
     number: usize,
     entry: &'a Entry,
-    source: Option<PickedSource<'a>>,
+    named: &[NamedSource<'a>],
 ) -> Result<(), AllocError>
-    ensures { OnOk result (lines.new.items ≡ lines.old.items ++ map (source_line number entry.now)
-        (optional_source picked_fields (option_map lent_source source.entry))) }
+    ensures { OnOk result (lines.new.items ≡ lines.old.items
+        ++ map (λ s. source_line number entry.now (source_fields s.1)) (map lent_named named.now)) }
 {
-    if let Some(source) = source {
+    for one in named {
+        let source = one.source;
         lines.push(SourceLine {
             number,
             entry,
             source,
-        })?;
-    }
-    Ok(())
-}
-
-/// Adds the wheels of an entry.
-fn push_wheels<'a>(
-    lines: &mut Vec<SourceLine<'a>>,
-    number: usize,
-    entry: &'a Entry,
-) -> Result<(), AllocError>
-    ensures { OnOk result (lines.new.items ≡ lines.old.items ++ map (source_line number entry.now)
-        (map (file_fields (codes "wheel")) entry.now.wheels)) }
-{
-    for wheel in entry.wheels() {
-        lines.push(SourceLine {
-            number,
-            entry,
-            source: PickedSource::Wheel(wheel),
         })?;
     }
     Ok(())

@@ -1,12 +1,13 @@
 //! What is printed in place of an answer, as JSON documents.
 
-ghost use Rattle.std.specs.Prelude.{◌≡◌, ◌++◌, ◌∷◌, [], OnOk, map};
+ghost use Rattle.std.specs.Prelude.{◌≡◌, ◌++◌, ◌∷◌, [], IfOk, OnOk, decimal, map, option_map};
+ghost use Rattle.std.specs.Prelude.{string_bytes};
 ghost use Rattle.std.specs.Option.{option_copied};
 ghost use Rattle.pylock_program.specs.Text.Json.{environment_json, fault_json, lock_json};
 ghost use Rattle.pylock_program.specs.Text.Json.{line_refusal_json};
 ghost use Rattle.pylock_program.specs.Text.Json.{option_json, refusal_json, side_json};
 ghost use Rattle.pylock_program.specs.Text.Json.{words_json};
-ghost use Rattle.pylock_run.specs.Text.Refusal.{lock_words};
+ghost use Rattle.pylock_run.specs.Text.Refusal.{refusal_words};
 
 use crate::choices::option_words;
 use pylock_command::Choice;
@@ -14,7 +15,7 @@ use pylock_core::{EnvError, LockError};
 use pylock_documents::{push_document, refused_document, refused_line_document};
 use pylock_json::Object;
 use pylock_messages::Diagnostic;
-use pylock_run::{LineRefusal, OpenError, entry_word, head_word, line_word};
+use pylock_run::{LineRefusal, OpenError, RefusalWords, environment_words, line_word, lock_words};
 use std::alloc::{AllocError, Global};
 
 /// Pushes the document of a refusal, of these words and what is told.
@@ -41,7 +42,7 @@ fn push_lock_json(
     ensures { OnOk result (out.new.items
         ≡ out.old.items ++ lock_json error.now (option_copied told.entry)) }
 {
-    push_lock_words(alloc, out, &["lock"], error, told)
+    push_words(alloc, out, &["lock"], lock_words(error), told)
 }
 
 /// Pushes the document of a refused lock that is one of two: `side` tells which it is.
@@ -55,40 +56,52 @@ pub(crate) fn push_side_json(
     ensures { OnOk result (out.new.items ≡ out.old.items
         ++ side_json side.now error.now (option_copied told.entry)) }
 {
-    push_lock_words(alloc, out, &["lock", side], error, told)
+    push_words(alloc, out, &["lock", side], lock_words(error), told)
 }
 
-/// Pushes the document of a refused lock, whose words stand behind these.
-fn push_lock_words(
+/// Pushes the document of a refused environment.
+fn push_environment_json(
+    alloc: Global,
+    out: &mut Vec<u8>,
+    error: &EnvError,
+    told: Option<&Diagnostic>,
+) -> Result<(), AllocError>
+    ensures { OnOk result (out.new.items
+        ≡ out.old.items ++ environment_json error.now (option_copied told.entry)) }
+{
+    push_words(alloc, out, &["environment"], environment_words(error), told)
+}
+
+/// Pushes the document of a refusal whose words stand behind these.
+fn push_words(
     alloc: Global,
     out: &mut Vec<u8>,
     front: &[&str],
-    error: &LockError,
+    words: RefusalWords,
     told: Option<&Diagnostic>,
 ) -> Result<(), AllocError>
     ensures { OnOk result (out.new.items ≡ out.old.items
-        ++ words_json (map (λ word. word.now) front.now ++ lock_words error.now)
+        ++ words_json (map (λ word. word.now) front.now ++ refusal_words words)
         (option_copied told.entry)) }
 {
-    match error {
-        LockError::NotText => push_both(alloc, out, front, &["not-text"], told),
-        LockError::Toml => push_both(alloc, out, front, &["toml"], told),
-        LockError::LockVersion => push_both(alloc, out, front, &["lock-version"], told),
-        LockError::CreatedBy => push_both(alloc, out, front, &["created-by"], told),
-        LockError::Head(key) => push_both(alloc, out, front, &["head", head_word(key)], told),
-        LockError::Packages => push_both(alloc, out, front, &["packages"], told),
-        LockError::TooMany => push_both(alloc, out, front, &["too-many"], told),
-        LockError::Entry(position, error) => {
-            let position = format!(in alloc; "{position}")?;
-            push_both(
-                alloc,
-                out,
-                front,
-                &["entry", position.as_str(), entry_word(error)],
-                told,
-            )
+    let word = words.word;
+    let number = number_text(alloc, words.number)?;
+    match (number.as_deref(), words.detail) {
+        (Some(number), Some(detail)) => {
+            push_both(alloc, out, front, &[word, number, detail], told)
         }
-        LockError::Memory => push_both(alloc, out, front, &["memory"], told),
+        (Some(number), None) => push_both(alloc, out, front, &[word, number], told),
+        (None, Some(detail)) => push_both(alloc, out, front, &[word, detail], told),
+        (None, None) => push_both(alloc, out, front, &[word], told),
+    }
+}
+
+fn number_text(alloc: Global, number: Option<u64>) -> Result<Option<String>, AllocError>
+    ensures { IfOk result (λ text. option_map string_bytes text ≡ option_map decimal number) }
+{
+    match number {
+        Some(number) => Ok(Some(format!(in alloc; "{number}")?)),
+        None => Ok(None),
     }
 }
 
@@ -108,29 +121,6 @@ fn push_both(
     all.extend_from_slice(front)?;
     all.extend_from_slice(words)?;
     push_refused(alloc, out, &all, told)
-}
-
-/// Pushes the document of a refused environment.
-fn push_environment_json(
-    alloc: Global,
-    out: &mut Vec<u8>,
-    error: &EnvError,
-    told: Option<&Diagnostic>,
-) -> Result<(), AllocError>
-    ensures { OnOk result (out.new.items
-        ≡ out.old.items ++ environment_json error.now (option_copied told.entry)) }
-{
-    match error {
-        EnvError::Json => push_refused(alloc, out, &["environment", "json"], told),
-        EnvError::Shape => push_refused(alloc, out, &["environment", "shape"], told),
-        EnvError::Tag(position) => {
-            let position = format!(in alloc; "{position}")?;
-            push_refused(alloc, out, &["environment", "tag", position.as_str()], told)
-        }
-        EnvError::Python => push_refused(alloc, out, &["environment", "python"], told),
-        EnvError::Platform => push_refused(alloc, out, &["environment", "platform"], told),
-        EnvError::Memory => push_refused(alloc, out, &["environment", "memory"], told),
-    }
 }
 
 /// Pushes the document of a refused lock or environment. Want of memory prints nothing.

@@ -1,11 +1,19 @@
 -- The line of a wheel or an sdist, in the parts that are put in their places.
-use Rattle.std.specs.Prelude.{◌≡◌, ℕ, ◌++◌, ◌+◌, ◌≤◌, List, ◌∷◌, length, codes, Some, true}
+use Rattle.std.specs.Prelude.{◌≡◌, ℕ, ◌++◌, ◌+◌, ◌≤◌, List, [], ◌∷◌, length, codes, true}
+use Rattle.std.specs.Prelude.{Some, None}
 use Rattle.std.specs.List.{list_all}
 use Rattle.pylock_readers.specs.Entry.{EntryValue, FileValue, file_name, place_of}
 use Rattle.pylock_run.specs.Inner.OrdinaryBytes.{is_ordinary}
 use Rattle.pylock_run.specs.Text.Field.{field}
 use Rattle.pylock_run.specs.Text.Plan.{hashes_text}
 use Rattle.pylock_run.specs.declared.text.file_line.FileTexts.{FileTexts}
+
+-- the fields of a wheel or an sdist, whose kind has this word
+abbrev pub file_fields : List ℕ → FileValue → List (List ℕ)
+file_fields word file =
+    word
+    ∷ field (file_name file) ∷ field (Some (place_of file.location))
+    ∷ field (hashes_text file.hashes) ∷ field None ∷ field None ∷ []
 
 -- the line of the texts
 abbrev pub file_line : FileTexts → List ℕ

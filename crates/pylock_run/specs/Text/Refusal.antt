@@ -1,5 +1,6 @@
 -- The refusal of a line, of a lock and of an environment, as it is printed. Each line ends in LF.
-use Rattle.std.specs.Prelude.{ℕ, ◌++◌, List, [], ◌∷◌, codes, decimal}
+use Rattle.std.specs.Prelude.{ℕ, ◌++◌, List, [], ◌∷◌, codes, decimal, option_map, option_to_list}
+use Rattle.std.specs.Option.{option_copied}
 use Rattle.pylock_readers.specs.declared.error.EntryError.{EntryError}
 use Rattle.pylock_readers.specs.declared.error.EntryError.TheVariants as entry_error
 use Rattle.pylock_readers.specs.declared.error.EntryKey.{EntryKey}
@@ -14,6 +15,7 @@ use Rattle.pylock_run.specs.declared.line.refusal.LineRefusal.{LineRefusal}
 use Rattle.pylock_run.specs.declared.line.refusal.LineRefusal.TheVariants as refusal
 use Rattle.pylock_run.specs.declared.report.opening.OpenError.{OpenError}
 use Rattle.pylock_run.specs.declared.report.opening.OpenError.TheVariants as open_error
+use Rattle.pylock_run.specs.declared.text.refusal.RefusalWords.{RefusalWords}
 use Rattle.pylock_run.specs.Text.Field.{line_of}
 
 -- the word of a line's refusal; out of memory is none, and is never printed
@@ -61,6 +63,12 @@ entry_word (entry_error.Key key) = key_word key
 entry_word entry_error.Marker = codes "marker"
 entry_word entry_error.RequiresPython = codes "requires-python"
 entry_word entry_error.Memory = codes "memory"
+
+-- the words of a refusal, as they are printed
+abbrev pub refusal_words : RefusalWords → List (List ℕ)
+refusal_words words =
+    words.word.now ∷ option_to_list (option_map decimal words.number)
+    ++ option_to_list (option_copied words.detail)
 
 -- the words of a lock's refusal; out of memory is no refusal of a lock, and is never printed
 abbrev pub lock_words : LockError → List (List ℕ)

@@ -10,11 +10,11 @@ ghost use Rattle.std.specs.Prelude.{IfSome, IfOk, IsTrue};
 ghost use Rattle.std.specs.List.{list_all};
 ghost use Rattle.std.specs.Option.{option_copied};
 ghost use Rattle.pylock_readers.specs.Text.{text_pairs};
-ghost use Rattle.pylock_run.specs.Inner.FileLine.{file_line, file_line_size, joined_texts};
-ghost use Rattle.pylock_run.specs.Inner.FileLine.{AreOrdinary, AreShort, StandIn};
+ghost use Rattle.pylock_run.specs.Inner.FileLine.{file_fields, file_line, file_line_size};
+ghost use Rattle.pylock_run.specs.Inner.FileLine.{AreOrdinary, AreShort, StandIn, joined_texts};
 ghost use Rattle.pylock_run.specs.Inner.OrdinaryBytes.{is_ordinary};
 ghost use Rattle.pylock_run.specs.Text.Field.{escaped_text, field};
-ghost use Rattle.pylock_run.specs.Text.Plan.{file_fields, hashes_text, source_line};
+ghost use Rattle.pylock_run.specs.Text.Plan.{hashes_text, source_line};
 
 use crate::text::field::is_ordinary_text;
 use itoa::Buffer;

@@ -4,13 +4,12 @@ ghost use Rattle.std.specs.Prelude.{◌≡◌, ◌++◌, ◌∷◌, [], Some, On
 ghost use Rattle.std.specs.List.{flat_map};
 ghost use Rattle.std.specs.Option.{option_map_or};
 ghost use Rattle.pylock_readers.specs.Text.{text_pairs};
-ghost use Rattle.pylock_core.specs.Session.Picks.{lent_source};
+ghost use Rattle.pylock_core.specs.Session.Picks.{OfArchive, OfDirectory, OfVcs, lent_source};
+ghost use Rattle.pylock_run.specs.Inner.FileLine.{file_fields};
 ghost use Rattle.pylock_run.specs.Inner.Hashes.{escaped_hash, more_hashes};
-ghost use Rattle.pylock_run.specs.Text.Picked.{picked_fields};
 ghost use Rattle.pylock_run.specs.Text.Field.{field, fields_text};
-ghost use Rattle.pylock_run.specs.Text.Plan.{hashes_text, revision, vcs_fields, directory_fields};
-ghost use Rattle.pylock_run.specs.Text.Plan.{archive_fields, file_fields, pick_text, answer_text};
-ghost use Rattle.pylock_run.specs.Text.Plan.{source_line};
+ghost use Rattle.pylock_run.specs.Text.Plan.{answer_text, hashes_text, pick_text, revision};
+ghost use Rattle.pylock_run.specs.Text.Plan.{source_fields, source_line};
 
 use crate::text::field::{push_decimal, push_escaped_text, push_last_word, push_next_field};
 use crate::text::file_line::push_file_line;
@@ -65,7 +64,8 @@ fn push_revision(out: &mut Vec<u8>, vcs: &Vcs) -> Result<(), AllocError>
 }
 
 fn push_vcs(out: &mut Vec<u8>, vcs: &Vcs) -> Result<(), AllocError>
-    ensures { OnOk result (out.new.items ≡ out.old.items ++ fields_text (vcs_fields vcs.now)) }
+    ensures { OnOk result (out.new.items
+        ≡ out.old.items ++ fields_text (source_fields (OfVcs vcs.now))) }
 {
     out.extend_from_slice(b"\tvcs\t-")?;
     push_next_field(out, Some(vcs.place()))?;
@@ -76,7 +76,7 @@ fn push_vcs(out: &mut Vec<u8>, vcs: &Vcs) -> Result<(), AllocError>
 
 fn push_directory(out: &mut Vec<u8>, directory: &Directory) -> Result<(), AllocError>
     ensures { OnOk result (out.new.items
-        ≡ out.old.items ++ fields_text (directory_fields directory.now)) }
+        ≡ out.old.items ++ fields_text (source_fields (OfDirectory directory.now))) }
 {
     out.push(b'\t')?;
     out.extend_from_slice(directory_word(directory).as_bytes())?;
@@ -88,7 +88,7 @@ fn push_directory(out: &mut Vec<u8>, directory: &Directory) -> Result<(), AllocE
 
 fn push_archive(out: &mut Vec<u8>, archive: &Archive) -> Result<(), AllocError>
     ensures { OnOk result (out.new.items
-        ≡ out.old.items ++ fields_text (archive_fields archive.now)) }
+        ≡ out.old.items ++ fields_text (source_fields (OfArchive archive.now))) }
 {
     out.extend_from_slice(b"\tarchive\t-")?;
     push_next_field(out, Some(archive.place()))?;
@@ -114,7 +114,7 @@ fn push_file(out: &mut Vec<u8>, kind: &[u8], file: &DistributionFile) -> Result<
 /// Pushes the fields of a source, which stands in its entry and so is never left out.
 fn push_source(out: &mut Vec<u8>, source: Option<PickedSource<'_>>) -> Result<(), AllocError>
     ensures { OnOk result (out.new.items ≡ out.old.items
-        ++ fields_text (option_map_or picked_fields (option_map lent_source source.entry) [])) }
+        ++ fields_text (option_map_or source_fields (option_map lent_source source.entry) [])) }
 {
     match source {
         Some(PickedSource::Vcs(vcs)) => push_vcs(out, vcs),
@@ -135,7 +135,7 @@ pub fn push_source_line(
     source: Option<PickedSource<'_>>,
 ) -> Result<(), AllocError>
     ensures { OnOk result (out.new.items ≡ out.old.items ++ source_line number entry.now
-        (option_map_or picked_fields (option_map lent_source source.entry) [])) }
+        (option_map_or source_fields (option_map lent_source source.entry) [])) }
 {
     let done = match source {
         Some(PickedSource::Wheel(wheel)) => push_file_line(out, number, entry, b"wheel", wheel)?,
@@ -153,7 +153,6 @@ pub fn push_source_line(
     Ok(())
 }
 
-#[tactic(auto, using(crate::proofs::TextLemmas::picked_source))]
 fn push_pick(out: &mut Vec<u8>, session: &Session, pick: &Pick) -> Result<(), AllocError>
     ensures { OnOk result (out.new.items ≡ out.old.items ++ pick_text session.now.state pick.now) }
 {

@@ -1,11 +1,11 @@
 //! Refusals of lines, of locks and of environments.
 
-ghost use Rattle.std.specs.Prelude.{◌≡◌, ◌++◌, OnOk};
+ghost use Rattle.std.specs.Prelude.{◌≡◌, ◌++◌, ◌∷◌, [], OnOk, codes};
 ghost use Rattle.pylock_run.specs.Text.Field.{fields_text};
 ghost use Rattle.pylock_run.specs.Text.Refusal.{head_word, key_word, entry_word, lock_words};
 ghost use Rattle.pylock_run.specs.Text.Refusal.{lock_text, environment_words, environment_text};
 ghost use Rattle.pylock_run.specs.Text.Refusal.{line_refusal_text, line_word, refusal_text};
-ghost use Rattle.pylock_run.specs.Text.Refusal.{side_text};
+ghost use Rattle.pylock_run.specs.Text.Refusal.{refusal_words, side_text};
 
 use crate::line::refusal::LineRefusal;
 use crate::report::opening::OpenError;
@@ -64,9 +64,7 @@ pub fn push_lock_error(out: &mut Vec<u8>, error: &LockError) -> Result<(), Alloc
     ensures { OnOk result (out.new.items ≡ out.old.items ++ lock_text error.now) }
 {
     out.extend_from_slice(b"lock")?;
-    push_lock_words(out, error)?;
-    out.push(b'\n')?;
-    Ok(())
+    push_words(out, lock_words(error))
 }
 
 /// Pushes the line of a refused lock that is one of two: `side` tells which it is.
@@ -75,9 +73,7 @@ pub fn push_side_error(out: &mut Vec<u8>, side: &str, error: &LockError) -> Resu
 {
     out.extend_from_slice(b"lock")?;
     push_word(out, side.as_bytes())?;
-    push_lock_words(out, error)?;
-    out.push(b'\n')?;
-    Ok(())
+    push_words(out, lock_words(error))
 }
 
 /// Pushes the line of a refused environment.
@@ -85,53 +81,96 @@ pub fn push_environment_error(out: &mut Vec<u8>, error: &EnvError) -> Result<(),
     ensures { OnOk result (out.new.items ≡ out.old.items ++ environment_text error.now) }
 {
     out.extend_from_slice(b"environment")?;
-    push_environment_words(out, error)?;
+    push_words(out, environment_words(error))
+}
+
+/// The words of a refusal of a lock or an environment: what is wrong, the number of the entry or the
+/// tag, which counts from 1, and what is wrong with that entry, or which key of the head is wrong.
+#[derive(Clone, Copy)]
+pub struct RefusalWords {
+    /// What is wrong.
+    pub word: &'static str,
+    /// Of which entry or tag.
+    pub number: Option<u64>,
+    /// What is wrong there.
+    pub detail: Option<&'static str>,
+}
+
+impl RefusalWords {
+    /// One word alone.
+    fn one(word: &'static str) -> RefusalWords
+        ensures { refusal_words result ≡ word.now ∷ [] }
+    {
+        RefusalWords {
+            word,
+            number: None,
+            detail: None,
+        }
+    }
+}
+
+/// The words of a refused lock. It takes no memory.
+pub fn lock_words(error: &LockError) -> RefusalWords
+    ensures { refusal_words result ≡ lock_words error.now }
+{
+    match error {
+        LockError::NotText => RefusalWords::one("not-text"),
+        LockError::Toml => RefusalWords::one("toml"),
+        LockError::LockVersion => RefusalWords::one("lock-version"),
+        LockError::CreatedBy => RefusalWords::one("created-by"),
+        LockError::Head(key) => RefusalWords {
+            word: "head",
+            number: None,
+            detail: Some(head_word(key)),
+        },
+        LockError::Packages => RefusalWords::one("packages"),
+        LockError::TooMany => RefusalWords::one("too-many"),
+        LockError::Entry(position, error) => RefusalWords {
+            word: "entry",
+            number: Some(*position as u64),
+            detail: Some(entry_word(error)),
+        },
+        LockError::Memory => RefusalWords::one("memory"),
+    }
+}
+
+/// The words of a refused environment. It takes no memory.
+pub fn environment_words(error: &EnvError) -> RefusalWords
+    ensures { refusal_words result ≡ environment_words error.now }
+{
+    match error {
+        EnvError::Json => RefusalWords::one("json"),
+        EnvError::Shape => RefusalWords::one("shape"),
+        EnvError::Tag(position) => RefusalWords {
+            word: "tag",
+            number: Some(*position as u64),
+            detail: None,
+        },
+        EnvError::Python => RefusalWords::one("python"),
+        EnvError::Platform => RefusalWords::one("platform"),
+        EnvError::Memory => RefusalWords::one("memory"),
+    }
+}
+
+/// Pushes the words as fields, and LF.
+fn push_words(out: &mut Vec<u8>, words: RefusalWords) -> Result<(), AllocError>
+    ensures { OnOk result (out.new.items
+        ≡ out.old.items ++ fields_text (refusal_words words) ++ codes "\n") }
+{
+    push_word(out, words.word.as_bytes())?;
+    if let Some(number) = words.number {
+        out.push(b'\t')?;
+        push_decimal(out, number)?;
+    }
+    if let Some(detail) = words.detail {
+        push_word(out, detail.as_bytes())?;
+    }
     out.push(b'\n')?;
     Ok(())
 }
 
-fn push_lock_words(out: &mut Vec<u8>, error: &LockError) -> Result<(), AllocError>
-    ensures { OnOk result (out.new.items ≡ out.old.items ++ fields_text (lock_words error.now)) }
-{
-    match error {
-        LockError::NotText => push_word(out, b"not-text"),
-        LockError::Toml => push_word(out, b"toml"),
-        LockError::LockVersion => push_word(out, b"lock-version"),
-        LockError::CreatedBy => push_word(out, b"created-by"),
-        LockError::Head(key) => {
-            push_word(out, b"head")?;
-            push_word(out, head_word(key).as_bytes())
-        }
-        LockError::Packages => push_word(out, b"packages"),
-        LockError::TooMany => push_word(out, b"too-many"),
-        LockError::Entry(position, error) => {
-            out.extend_from_slice(b"\tentry\t")?;
-            push_decimal(out, *position as u64)?;
-            push_word(out, entry_word(error).as_bytes())
-        }
-        LockError::Memory => push_word(out, b"memory"),
-    }
-}
-
-fn push_environment_words(out: &mut Vec<u8>, error: &EnvError) -> Result<(), AllocError>
-    ensures { OnOk result (out.new.items
-        ≡ out.old.items ++ fields_text (environment_words error.now)) }
-{
-    match error {
-        EnvError::Json => push_word(out, b"json"),
-        EnvError::Shape => push_word(out, b"shape"),
-        EnvError::Tag(position) => {
-            out.extend_from_slice(b"\ttag\t")?;
-            push_decimal(out, *position as u64)
-        }
-        EnvError::Python => push_word(out, b"python"),
-        EnvError::Platform => push_word(out, b"platform"),
-        EnvError::Memory => push_word(out, b"memory"),
-    }
-}
-
 /// The word of a key of the head.
-pub fn head_word(key: &HeadKey) -> &'static str
+fn head_word(key: &HeadKey) -> &'static str
     ensures { result.now ≡ head_word key.now }
 {
     match key {
@@ -144,7 +183,7 @@ pub fn head_word(key: &HeadKey) -> &'static str
 }
 
 /// The word of an entry's refusal.
-pub fn entry_word(error: &EntryError) -> &'static str
+pub(crate) fn entry_word(error: &EntryError) -> &'static str
     ensures { result.now ≡ entry_word error.now }
 {
     match error {

@@ -1,5 +1,4 @@
-use Rattle.std.proofs.Common.{◌≡◌, ◌∙◌, ◌++◌, [], ap, append-nil, sym}
-use Rattle.std.specs.Option.{option_map_or}
+use Rattle.std.proofs.Common.{◌∙◌, ◌++◌, ap, append-nil, sym}
 use Rattle.pylock_readers.specs.Text.{text_pairs}
 use Rattle.pylock_core.specs.Session.Picks.{lent_source}
 use Rattle.pylock_audit.specs.Source.{tested_hashes}
@@ -9,6 +8,6 @@ use Rattle.pylock_audit.proofs.source.push_tested_hashes.Goals as goal
 pub returns-then-not-any_told : goal.returns-then-not-any_told
 returns-then-not-any_told c =
     let list = c.args.list.now.items in
-    let told = tested_hashes c.args.kind (lent_source c.args.source) in
-    let none = none_told c.args.kind (lent_source c.args.source) (text_pairs c.in-Some.hashes.now) (sym c.any_told.ensures ∙ c.if-not-any_told.true) in
-    sym (append-nil list) ∙ ap (λ more. list ++ more) (sym none ∙ ap (λ hashes. option_map_or told hashes []) c.in-Some.ensures)
+    let source = lent_source c.args.source in
+    let none = none_told c.args.kind source (text_pairs c.hashes-hashes.result.now) (sym c.any_told.ensures ∙ c.if-not-any_told.true) in
+    sym (append-nil list) ∙ ap (λ more. list ++ more) (sym none ∙ ap (tested_hashes c.args.kind source) c.hashes-hashes.ensures)

@@ -6,6 +6,7 @@ use Rattle.std.proofs.lemmas.Result.{err_from_is_err_and}
 use Rattle.pytext.specs.Agreement.{Gives}
 use Rattle.pylock_run.specs.declared.line.refusal.LineRefusal.{LineRefusal}
 use Rattle.pylock_run.specs.declared.line.refusal.LineRefusal.TheVariants as line
+use Rattle.pylock_c.specs.declared.edits.NamesEdit.{NamesEdit}
 use Rattle.pylock_c.proofs.SessionLemmas.{refused_names}
 use Rattle.pylock_c.proofs.sessions.edit_names_in.Goals as goal
 
@@ -13,5 +14,5 @@ pub returns-in_err-edit_names-in-Session : goal.returns-in_err-edit_names-in-Ses
 returns-in_err-edit_names-in-Session c = λ definition gives.
     let error = err_from_is_err_and c.from_residual-in_err-edit_names-in-Session.result c.from_residual-in_err-edit_names-in-Session.ensures.1 in
     let e = c.in_err-edit_names-in-Session.ensures in
-    let read = subst (λ (r : Result (Vec (List ℕ) Global) LineRefusal). Gives line.Memory (λ names. names.items) r definition) c.in_ok-names-in-Session.was gives in
-    refused_names c.args.change read c.in-Session.is e.err error.1 error.2 e.ok
+    let read = subst (λ (r : Result (NamesEdit × Vec (List ℕ) Global) LineRefusal). Gives line.Memory (λ read. (read.0, read.1.items)) r definition) c.in_ok-edit-in-Session.was gives in
+    refused_names read c.in-Session.is e.err error.1 error.2 e.ok

@@ -9,7 +9,7 @@ use Rattle.pymark_core.specs.Marker.Keys.{reads}
 use Rattle.pymark_core.specs.Marker.Reading.{MarkerValue}
 use Rattle.pylock_readers.specs.Entry.{EntryValue}
 use Rattle.pylock_core.specs.Inner.Tables.Index.{put_in, take_out, moved, list_at, numbers_in, read_by}
-use Rattle.pylock_core.specs.Session.State.{Rises, NumbersRise, State, in_rows}
+use Rattle.pylock_core.specs.Session.State.{Rises, NumbersRise, State, in_rows, is_among}
 use Rattle.pylock_readers.specs.Lock.{HeadValue}
 use Rattle.pylock_core.specs.Session.Judgement.{IndexKey, Marked, OfTags, and_head, entry_reads, head_reads, is_python, keys, marker_reads, numbers_where, readers, touched}
 use Rattle.pylock_readers.specs.Entry.Kinds.{is_any}
@@ -18,6 +18,7 @@ use Rattle.pymark_core.specs.Change.{changed_key}
 use Rattle.pylock_core.specs.Inner.Tables.Rows.{passes}
 use Rattle.pylock_core.specs.declared.edit.Edit.{Edit}
 use Rattle.pylock_core.specs.declared.edit.Edit.TheVariants as edit
+use Rattle.pylock_core.specs.Session.Names.{names_key}
 
 -- ---- one list
 
@@ -319,9 +320,12 @@ readers_rise key state rise = head_rises (head_reads key state.head) (numbers_wh
 
 pub touched_rises : (edit : Edit) (state : State) → NumbersRise state → Rises 0 (touched edit state)
 touched_rises (edit.Environment change) state rise = readers_rise (Marked (changed_key change)) state rise
+touched_rises (edit.Names change names) state rise = readers_rise (Marked (names_key change)) state rise
 touched_rises (edit.Tags tags) state rise = readers_rise OfTags state rise
 touched_rises (edit.Add entry) state rise = (omega arith, tt)
 touched_rises (edit.Put n entry) state rise = (omega arith, tt)
 touched_rises (edit.Del n) state rise = tt
 touched_rises (edit.Policy name policy) state rise =
     rises_from 1 0 (touched (edit.Policy name policy) state) (omega arith) (filtered_rise (λ entry. bytes_eq name entry.name) 1 state.entries rise)
+touched_rises (edit.Policies names policy) state rise =
+    rises_from 1 0 (touched (edit.Policies names policy) state) (omega arith) (filtered_rise (λ entry. is_among names.items entry.name) 1 state.entries rise)

@@ -13,7 +13,7 @@ use Rattle.std.proofs.lemmas.Slice.Eq.{bytes_eq-Decides}
 use Rattle.std.proofs.lemmas.Map.Text.{is_eq-slice_cmp}
 use Rattle.pylock_core.specs.Inner.Tables.Index.{list_at}
 use Rattle.pylock_core.specs.Inner.Tables.Names.{IsNumbering, IsNames, policy_at, policies_from, policies_in, members_named, members_under, number_named}
-use Rattle.pylock_core.specs.Session.State.{Policies, State, with_policy, policy_of}
+use Rattle.pylock_core.specs.Session.State.{Policies, with_policy, policy_of}
 use Rattle.pylock_core.specs.declared.session.tables.names.Names.{Names}
 use Rattle.pylock_core.specs.declared.edit.Policy.{Policy}
 use Rattle.pylock_core.specs.declared.edit.Policy.TheVariants.{Any, Wheel, Source}
@@ -244,22 +244,3 @@ same_number names is q p n m has_q has_p =
     let equal : n ≡ m = cc in
     (ap (bytes_eq q) (sym same) ∙ text_itself q) ∙ sym (eq-eqb n m equal))
     (λ differs ne. differs ∙ sym (ne_eqb n m (λ equal. ne (is.numbering.apart q p m (has_q ∙ ap Some equal) has_p))))
-
--- a name that has a policy, which isn't `Any`, is given it again: nothing changes
-pub policy_again : (name : List ℕ) (policy : Policy) (state : State) → (policy ≡ Any → ⊥) → policy_of state.policies name ≡ policy
-    → record state { policies = with_policy state.policies name policy } ≡ state
-policy_again name policy state some has =
-    ap (λ policies. record state { policies = policies }) (same_policies (with_policy state.policies name policy) state.policies
-    (λ q. get_with_policy state.policies name policy q ∙ ap (λ b. cond b (chosen policy) (map_of.get state.policies q)) (is_eq-slice_cmp q name) ∙ by q))
-  where
-    of : (found : Option Policy) (p : Policy) → (p ≡ Any → ⊥) → unwrap_or found Any ≡ p → chosen p ≡ found
-    of None p not_any is = absurd (not_any (sym is))
-    of (Some f) Any not_any is = absurd (not_any refl)
-    of (Some f) Wheel not_any is = ap Some (sym is)
-    of (Some f) Source not_any is = ap Some (sym is)
-
-    by : (q : List ℕ) → cond (bytes_eq q name) (chosen policy) (map_of.get state.policies q) ≡ map_of.get state.policies q
-    by q = same_or_not q name
-        (λ same. ap (λ b. cond b (chosen policy) (map_of.get state.policies q)) (ap (bytes_eq q) (sym same) ∙ text_itself q)
-        ∙ of (map_of.get state.policies q) policy some (ap (λ n. policy_of state.policies n) same ∙ has))
-        (λ is apart. ap (λ b. cond b (chosen policy) (map_of.get state.policies q)) is)

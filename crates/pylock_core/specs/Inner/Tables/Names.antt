@@ -1,13 +1,13 @@
 -- The names of a session: each has a number, and by the number its policy and its entries.
 use Rattle.std.specs.Prelude.{◌≡◌, ℕ, ◌<◌, Bool, false, nat_eq, List, ◌∷◌, length, Option, Some}
-use Rattle.std.specs.Prelude.{None, slice_index_or, string_bytes, vec_len, vec_capacity, []}
+use Rattle.std.specs.Prelude.{IsSome, None, slice_index_or, string_bytes, vec_len, vec_capacity, []}
 use Rattle.std.specs.BTreeMap.{get_by_text}
 use Rattle.std.specs.FinMap as map_of
 use Rattle.std.specs.Global.{Global}
 use Rattle.std.specs.declared.string.String.{String}
 use Rattle.std.specs.declared.vec.Vec.{Vec}
 use Rattle.pylock_core.specs.Inner.Tables.Index.{list_at}
-use Rattle.pylock_core.specs.Session.State.{Policies, with_policy}
+use Rattle.pylock_core.specs.Session.State.{Policies, is_among, with_policy}
 use Rattle.pylock_core.specs.declared.edit.Policy.{Policy}
 use Rattle.pylock_core.specs.declared.edit.Policy.TheVariants.{Any}
 use Rattle.pylock_core.specs.declared.session.tables.names.Names.{Names}
@@ -52,6 +52,17 @@ is_at n (Some m) = nat_eq n m
 pub record IsNames (names : Names) : Type 0 where
   pub numbering : IsNumbering (number_named names) (length names.policies.items)
   pub even : length names.members.items ≡ length names.policies.items
+
+-- each of these names has a number
+abbrev pub AreKnown : Names → List (List ℕ) → Type 0
+AreKnown names list =
+    (i : ℕ) → i < length list → IsSome (number_named names (slice_index_or list i []))
+
+-- under the number of each name stands whether it is one of these
+abbrev pub AreMarks : Names → List (List ℕ) → List Bool → Type 0
+AreMarks names list marks =
+    (name : List ℕ) (n : ℕ) → number_named names name ≡ Some n
+    → slice_index_or marks n false ≡ is_among list name
 
 -- under the number there is room for one more entry
 abbrev pub HasRoom : Names → ℕ → Type 0

@@ -16,6 +16,10 @@ abbrev pub passes : {X : Type 0} → (X → Bool) → Option X → Bool
 passes test None = false
 passes test (Some x) = test x
 
+-- whether the name of the row is marked
+abbrev pub is_marked : List Bool → Row → Bool
+is_marked marks row = slice_index_or marks row.name false
+
 -- the best wheel, or an sdist that the policy allows
 abbrev pub file_source : Option ℕ → Bool → Policy → Option PickSource
 file_source (Some place) sdist policy = Some (source.Wheel place)

@@ -8,8 +8,9 @@ ghost use Rattle.pylock_core.specs.Inner.Editing.{DifferAt, Leaves};
 ghost use Rattle.pylock_core.specs.Inner.KeptEnvironment.{LeadsFrom};
 ghost use Rattle.pylock_core.specs.Inner.Parts.{IsSession, shown, state_of};
 ghost use Rattle.pylock_core.specs.Session.Judgement.{Marked, readers};
-ghost use Rattle.pylock_core.specs.Session.Names.{after_names, name_change, names_key};
-ghost use Rattle.pylock_core.specs.Session.State.{State, apply, in_environment, is_among};
+ghost use Rattle.pylock_core.specs.Session.Names.{name_change, names_key};
+ghost use Rattle.pylock_core.specs.Session.State.{State, after_change, after_names};
+ghost use Rattle.pylock_core.specs.Session.State.{in_environment, is_among};
 ghost use Rattle.pylock_core.specs.declared.edit.Edit.TheVariants as edit;
 ghost use Rattle.pylock_core.specs.declared.edit.EditError.TheVariants.{Memory};
 ghost use Rattle.pylock_core.specs.declared.edit.EditError.TheVariants.{UnknownExtra, UnknownGroup};
@@ -28,16 +29,17 @@ use pyver_core::NormalName;
 use std::alloc::{AllocError, Global};
 
 /// Refuses a change of an extra or a group that the lock doesn't name.
-fn check_named(parts: &Parts, change: &Change) -> Result<(), EditError>
-    ensures ok { OnOk result (apply (edit.Environment change.now) (state_of parts.now)
-        ≡ Ok (in_environment (changed change.now parts.now.environment) (state_of parts.now))) }
-    ensures refused { IfErr result (λ error.
-        apply (edit.Environment change.now) (state_of parts.now) ≡ Err error) }
+fn check_named(head: &Head, change: &Change) -> Result<(), EditError>
+    ensures ok { OnOk result ((state : State) → state.head ≡ head.now
+        → after_change change.now state
+        ≡ Ok (in_environment (changed change.now state.environment) state)) }
+    ensures refused { IfErr result (λ error. (state : State) → state.head ≡ head.now
+        → after_change change.now state ≡ Err error) }
 {
     match change {
         Change::Set(_, _) | Change::Unset(_) => Ok(()),
-        Change::AddExtra(name) | Change::DropExtra(name) => check_extra(&parts.head, name),
-        Change::AddGroup(name) | Change::DropGroup(name) => check_group(&parts.head, name),
+        Change::AddExtra(name) | Change::DropExtra(name) => check_extra(head, name),
+        Change::AddGroup(name) | Change::DropGroup(name) => check_group(head, name),
     }
 }
 
@@ -126,7 +128,7 @@ pub(crate) fn edit_environment(
     ensures left { Leaves (edit.Environment change) parts.old parts.new
         judged.old judged.new result }
 {
-    check_named(parts, &change)?;
+    check_named(&parts.head, &change)?;
     let key = change.key();
     let alloc = parts.alloc;
     let mut edited = begin_edit(parts, key)?;
@@ -145,21 +147,18 @@ fn change_name(
 ) -> Result<(), EditError>
     ensures ok { OnOk result ((state : State) → state.head ≡ head.now
         → state.environment ≡ edited.old.environment
-        → apply (edit.Environment (name_change change name)) state
+        → after_change (name_change change name) state
         ≡ Ok (in_environment edited.new.environment state)) }
     ensures refused { IfErr result (λ error. (error ≡ Memory → ⊥) → (state : State)
-        → state.head ≡ head.now
-        → apply (edit.Environment (name_change change name)) state ≡ Err error) }
+        → state.head ≡ head.now → after_change (name_change change name) state ≡ Err error) }
     ensures differ { OnOk result
         (DifferAt (names_key change) edited.old.environment edited.new.environment) }
     ensures leads { OnOk result ((before : EnvironmentValue) → LeadsFrom before edited.old
         → LeadsFrom before edited.new) }
 {
-    match change {
-        NameChange::AddExtra | NameChange::DropExtra => check_extra(head, &name)?,
-        NameChange::AddGroup | NameChange::DropGroup => check_group(head, &name)?,
-    }
-    edited.apply(alloc, change.of(name))?;
+    let change = change.of(name);
+    check_named(head, &change)?;
+    edited.apply(alloc, change)?;
     Ok(())
 }
 
@@ -196,13 +195,8 @@ pub(crate) fn edit_names(
 ) -> Result<(), EditError>
     requires { IsSession parts.old }
     ensures session { IsSession parts.new }
-    ensures ok { OnOk result
-        (after_names change names.items (state_of parts.old) ≡ Ok (state_of parts.new)) }
-    ensures judged { OnOk result (judged.new
-        ≡ judged.old ++ readers (Marked (names_key change)) (state_of parts.old)) }
-    ensures refused { IfErr result (λ error. (error ≡ Memory → ⊥)
-        → after_names change names.items (state_of parts.old) ≡ Err error) }
-    ensures kept { OnErr result (shown parts.new ≡ shown parts.old) }
+    ensures left { Leaves (edit.Names change names) parts.old parts.new
+        judged.old judged.new result }
 {
     let mut edited = begin_edit(parts, change.key())?;
     change_names(parts, &mut edited, change, names)?;

@@ -56,7 +56,7 @@ fn row_under_policy(
 }
 
 /// The rows of the entries of these numbers, judged again under this policy.
-fn rows_under_policy(
+pub(crate) fn rows_under_policy(
     parts: &Parts,
     policy: Policy,
     numbers: &[u32],

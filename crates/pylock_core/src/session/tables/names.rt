@@ -4,17 +4,19 @@
 
 ghost use Rattle.std.specs.Prelude.{◌≡◌, ℕ, ◌+◌, ◌<◌, nat_eq, not, List, [], Some, None, IfOk};
 ghost use Rattle.std.specs.Prelude.{IfSome, OnOk, OnErr, IsSome, IsTrue, length, slice_set};
-ghost use Rattle.std.specs.Prelude.{string_bytes, if◌then◌else◌};
+ghost use Rattle.std.specs.Prelude.{◌||◌, false, slice_index_or, string_bytes, if◌then◌else◌};
 ghost use Rattle.std.specs.BTreeMap.{Updates, btree_map_len, get_by_text};
 ghost use Rattle.std.specs.String.{string_cmp};
 ghost use Rattle.pylock_core.specs.Inner.Tables.Index.{list_at, moved};
-ghost use Rattle.pylock_core.specs.Session.State.{Rises, policy_of, with_policy};
-ghost use Rattle.pylock_core.specs.Inner.Tables.Names.{HasRoom, IsNames, Kept, Same, is_at};
+ghost use Rattle.pylock_core.specs.Session.State.{Rises, with_policies, with_policy};
+ghost use Rattle.pylock_core.specs.Inner.Tables.Names.{AreKnown, AreMarks, HasRoom, IsNames, Kept};
+ghost use Rattle.pylock_core.specs.Inner.Tables.Names.{Same, is_at};
 ghost use Rattle.pylock_core.specs.Inner.Tables.Names.{members_named, number_named, policies_in};
 
 use crate::edit::Policy;
 use crate::session::tables::index::{move_in_list, reserve_in_list};
 use crate::session::tables::room::push_within;
+use pyver_core::NormalName;
 use std::alloc::{AllocError, Global};
 use std::collections::BTreeMap;
 
@@ -87,18 +89,6 @@ pub(crate) fn number_of(alloc: Global, names: &mut Names, name: &str) -> Result<
     Ok(number)
 }
 
-/// The policy of the name: `Any` where none was given. It takes no memory.
-#[tactic(auto, using(crate::proofs::Lemmas::Tables::Names::policy_of_in))]
-pub(crate) fn policy_named(names: &Names, name: &str) -> Policy
-    requires { IsNames names.now }
-    ensures { result ≡ policy_of (policies_in names.now) name.now }
-{
-    match names.numbers.get(name) {
-        Some(number) => names.policies[*number],
-        None => Policy::Any,
-    }
-}
-
 /// Gives the name of this number the policy.
 pub(crate) fn set_policy(names: &mut Names, number: usize, policy: Policy)
     requires is { IsNames names.old }
@@ -111,6 +101,87 @@ pub(crate) fn set_policy(names: &mut Names, number: usize, policy: Policy)
     ensures is { IsNames names.new }
 {
     names.policies[number] = policy;
+}
+
+/// Gives each of these names a number, where it has none. Where there is no memory for it, all stays
+/// but for room and for numbers that no entry has.
+pub(crate) fn number_all(
+    alloc: Global,
+    names: &mut Names,
+    list: &[NormalName],
+) -> Result<(), AllocError>
+    requires { IsNames names.old }
+    ensures known { OnOk result (AreKnown names.new list.now) }
+    ensures kept { Kept names.old names.new }
+{
+    for name in list {
+        number_of(alloc, names, name.as_str())?;
+    }
+    Ok(())
+}
+
+/// Marks the place of this number.
+fn mark(marks: &mut Vec<bool>, number: Option<usize>)
+    requires { IfSome number (λ n. n < length marks.old.items) }
+    ensures length { length marks.new.items ≡ length marks.old.items }
+    ensures marks { (n : ℕ) → slice_index_or marks.new.items n false
+        ≡ (is_at n number || slice_index_or marks.old.items n false) }
+{
+    if let Some(number) = number {
+        marks[number] = true;
+    }
+}
+
+/// The number of the name, if it has one.
+fn known_number(names: &Names, name: &str) -> Option<usize>
+    ensures { result ≡ number_named names.now name.now }
+{
+    names.numbers.get(name).copied()
+}
+
+/// For the number of each name, whether it is one of these.
+pub(crate) fn marks_of(
+    alloc: Global,
+    names: &Names,
+    list: &[NormalName],
+) -> Result<Vec<bool>, AllocError>
+    requires { IsNames names.now }
+    ensures { IfOk result (λ marks. AreMarks names.now list.now marks.items) }
+{
+    let mut marks = vec![in alloc; false; names.policies.len()]?;
+    for name in list {
+        mark(&mut marks, known_number(names, name.as_str()));
+    }
+    Ok(marks)
+}
+
+/// Gives the name, which has a number, the policy.
+fn set_policy_of(names: &mut Names, name: &str, policy: Policy)
+    requires is { IsNames names.old }
+    requires known { IsSome (number_named names.old name.now) }
+    ensures policies { policies_in names.new ≡ with_policy (policies_in names.old) name.now policy }
+    ensures members { (q : List ℕ) → members_named names.new q ≡ members_named names.old q }
+    ensures numbers { (q : List ℕ) → number_named names.new q ≡ number_named names.old q }
+    ensures is { IsNames names.new }
+{
+    if let Some(number) = known_number(names, name) {
+        set_policy(names, number, policy);
+    }
+}
+
+/// Gives each of these names the policy.
+pub(crate) fn set_policies(names: &mut Names, list: &[NormalName], policy: Policy)
+    requires is { IsNames names.old }
+    requires known { AreKnown names.old list.now }
+    ensures policies { policies_in names.new
+        ≡ with_policies (policies_in names.old) list.now policy }
+    ensures members { (q : List ℕ) → members_named names.new q ≡ members_named names.old q }
+    ensures numbers { (q : List ℕ) → number_named names.new q ≡ number_named names.old q }
+    ensures is { IsNames names.new }
+{
+    for name in list {
+        set_policy_of(names, name.as_str(), policy);
+    }
 }
 
 /// Makes room for one more entry of the name of this number.

@@ -2,14 +2,17 @@
 //! are never used again: an edit finds its row by index, and taking an entry out moves no row and
 //! takes no memory. An answer touches no text of an entry until it prints.
 
-ghost use Rattle.std.specs.Prelude.{◌≡◌, ◌<◌, None, length, slice_index_or, slice_set};
-ghost use Rattle.pylock_core.specs.Inner.Tables.Rows.{AllWithin, row_source};
+ghost use Rattle.std.specs.Prelude.{◌≡◌, ◌<◌, ◌≤◌, IfOk, None, length, slice_index_or, slice_set};
+ghost use Rattle.pylock_core.specs.Inner.Tables.Rows.{AllWithin, is_marked, passes, row_source};
 ghost use Rattle.pylock_core.specs.Inner.Tables.Rows.{row_stood, with_rows, with_standings};
+ghost use Rattle.pylock_core.specs.Session.Judgement.{numbers_where};
+ghost use Rattle.pylock_core.specs.Session.State.{in_rows};
 
 use crate::answer::PickSource;
 use crate::edit::Policy;
 use crate::session::judging::verdict::{StandingAnew, Verdict};
 use crate::session::tables::room::put_at;
+use std::alloc::{AllocError, Global};
 
 /// Which sources an entry has, its wheels apart, and whether all of them are of more than one kind.
 #[derive(Clone, Copy)]
@@ -62,6 +65,35 @@ fn stand_row(row: &mut Option<Row>, anew: StandingAnew)
     if let Some(row) = row {
         row.verdict.stand(anew);
     }
+}
+
+/// Whether there is a row, and its name is marked.
+fn is_marked(row: &Option<Row>, marks: &[bool]) -> bool
+    ensures { result ≡ passes (is_marked marks.now) row.now }
+{
+    match row {
+        Some(row) => marks.get(row.name).copied().unwrap_or(false),
+        None => false,
+    }
+}
+
+/// The numbers of the entries whose names are marked, in increasing order.
+pub(crate) fn marked_entries(
+    alloc: Global,
+    rows: &[Option<Row>],
+    marks: &[bool],
+) -> Result<Vec<u32>, AllocError>
+    requires { length rows.now ≤ 100000 }
+    ensures { IfOk result (λ numbers. numbers.items
+        ≡ numbers_where (is_marked marks.now) (in_rows 1 rows.now)) }
+{
+    let mut numbers = Vec::new(alloc);
+    for (place, row) in rows.iter().enumerate() {
+        if is_marked(row, marks) {
+            numbers.push(place as u32 + 1)?;
+        }
+    }
+    Ok(numbers)
 }
 
 /// A row that was judged again, with its place.

@@ -1,7 +1,7 @@
 use Rattle.std.proofs.Common.{◌≡◌, ◌++◌, Some, None, map, take}
 use Rattle.pylock_core.specs.Session.Picks.{lent_source}
 use Rattle.pylock_diff.specs.Change.{change_of}
-use Rattle.pylock_diff.specs.Sources.{source_text}
+use Rattle.pylock_places.specs.Shown.{source_text}
 use Rattle.pylock_diff.specs.declared.change.ChangeKind.TheVariants.{File}
 use Rattle.pylock_diff.proofs.sources.push_come.Given as goal
 

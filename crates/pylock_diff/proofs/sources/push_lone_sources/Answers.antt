@@ -1,7 +1,8 @@
 use Rattle.std.proofs.Common.{◌∙◌, ◌++◌, List, None, Some, ap, map}
 use Rattle.pylock_core.specs.Session.Picks.{SourceValue, lent_source}
 use Rattle.pylock_diff.specs.Change.{change_of}
-use Rattle.pylock_diff.specs.Sources.{lone_sources, source_text}
+use Rattle.pylock_places.specs.Shown.{source_text}
+use Rattle.pylock_diff.specs.Sources.{lone_sources}
 use Rattle.pylock_diff.specs.declared.change.ChangeKind.TheVariants.{File}
 use Rattle.pylock_compare.proofs.RowLemmas.{in_turn}
 use Rattle.pylock_diff.proofs.sources.push_lone_sources.Goals as goal

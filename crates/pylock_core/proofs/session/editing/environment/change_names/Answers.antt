@@ -6,7 +6,7 @@ use Rattle.pymark_core.specs.Marker.Value.{AgreeAt}
 use Rattle.pymark_core.specs.declared.marker.keys.Key.{Key}
 use Rattle.pymark_core.specs.declared.marker.keys.Key.TheVariants.{Of, Extras, Groups}
 use Rattle.pylock_core.specs.Inner.Parts.{state_of}
-use Rattle.pylock_core.specs.Session.Names.{after_names}
+use Rattle.pylock_core.specs.Session.State.{after_names}
 use Rattle.pylock_core.specs.Session.State.{in_environment}
 use Rattle.pylock_core.proofs.session.editing.environment.change_names.Goals as goal
 

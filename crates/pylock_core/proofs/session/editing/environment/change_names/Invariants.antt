@@ -2,7 +2,8 @@ use Rattle.std.proofs.Common.{◌≡◌}
 use Rattle.pylock_core.specs.Inner.Editing.{DifferAt}
 use Rattle.pylock_core.specs.Inner.KeptEnvironment.{LeadsFrom}
 use Rattle.pylock_core.specs.Inner.Parts.{state_of}
-use Rattle.pylock_core.specs.Session.Names.{after_names, names_key}
+use Rattle.pylock_core.specs.Session.Names.{names_key}
+use Rattle.pylock_core.specs.Session.State.{after_names}
 use Rattle.pylock_core.specs.Session.State.{in_environment}
 use Rattle.pylock_core.proofs.session.editing.environment.change_names.Given as goal
 

@@ -1,4 +1,5 @@
-use Rattle.std.proofs.Common.{◌≡◌, ◌∙◌, subst, ap, sym, ℕ, List, map, get_or, set, Option, Some, None, refl}
+use Rattle.std.proofs.Common.{◌≡◌, ◌∙◌, ◌++◌, subst, ap, sym, ℕ, List, map, get_or, set, Option, Some, None, Ok, refl}
+use Rattle.std.proofs.lemmas.Result.{err_from_is_err_and}
 use Rattle.pymark_core.specs.Change.{changed, changed_key}
 use Rattle.pymark_core.specs.Marker.Value.{AgreeAt}
 use Rattle.std.proofs.lemmas.List.{get_or-set_other}
@@ -10,7 +11,9 @@ use Rattle.pymark_core.specs.declared.marker.keys.Key.{Key}
 use Rattle.pymark_core.specs.declared.marker.keys.Key.TheVariants.{Of, Extras, Groups}
 use Rattle.pymark_core.specs.Variables.{variable_number}
 use Rattle.pymark_core.specs.declared.variable.Var.{Var}
-use Rattle.pylock_core.specs.Session.Judgement.{IndexKey, Marked, OfTags, keys}
+use Rattle.pylock_core.specs.Inner.Parts.{state_of}
+use Rattle.pylock_core.specs.Session.Judgement.{IndexKey, Marked, OfTags, keys, readers}
+use Rattle.pylock_core.specs.Session.State.{in_environment}
 use Rattle.pylock_core.proofs.Lemmas.Judging.Judgement.{at_place}
 use Rattle.pylock_core.proofs.session.editing.environment.edit_environment.Goals as goal
 
@@ -53,3 +56,25 @@ change_environment-requires-clause-differ c = λ other apart.
     let same : c.in_ok-edited.edited.environment ≡ old = c.in_ok-edited.ensures.same ∙ ap (λ p. p.environment) (sym c.in_ok-edited.ensures.kept) in
     let made : c.apply.new.self.environment ≡ changed c.args.change old = c.in_ok-apply.ensures.ok ∙ ap (changed c.args.change) same in
     subst (AgreeAt other old) (sym made) (changed_differs c.args.change old other (λ same. apart (same ∙ sym c.key-key.ensures)))
+
+pub returns-in_err-check_named-clause-left : goal.returns-in_err-check_named-clause-left
+returns-in_err-check_named-clause-left c =
+    let p = err_from_is_err_and c.from_residual.result c.from_residual.ensures.1 in
+    rw (p.1, p.2) (record {
+      reason = λ other. c.in_err-check_named.ensures.refused (state_of c.args.parts.now) refl;
+      memory = λ is. refl;
+      kept = refl;
+    })
+
+pub returns-clause-left : goal.returns-clause-left
+returns-clause-left c =
+    let start = c.args.parts.now in
+    let kept = c.in_ok-edited.ensures.kept in
+    let made : c.apply.new.self.environment ≡ changed c.args.change start.environment =
+    c.in_ok-apply.ensures.ok ∙ ap (changed c.args.change) c.in_ok-edited.ensures.same in
+    record {
+      applied = c.in_ok-check_named.ensures.ok (state_of start) refl
+          ∙ ap Ok (sym (c.in_ok-change_environment.ensures.ok ∙ (λ i. in_environment (made i) (state_of (kept i)))));
+      judged = c.in_ok-change_environment.ensures.judged
+          ∙ (λ i. c.args.judged.now ++ readers (Marked (c.key-key.ensures i)) (state_of (kept i)));
+    }

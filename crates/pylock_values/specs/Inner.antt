@@ -1,2 +1,0 @@
--- What serves private contracts alone.
-pub mod Lent
