@@ -39,8 +39,9 @@ pub fn environment_message(
 /// file.
 ///
 /// It names the byte that is no UTF-8, the line and column where the text is no JSON, the first
-/// part of another shape, or the first text that is no tag. The text is read again, and takes the
-/// memory of that. No contract says what it tells.
+/// part of another shape, or the first text that is no tag. Of an empty file and of TOML the line
+/// says in place of that what the file is. The text is read again, and takes the memory of that;
+/// one that is no JSON is read as TOML too. No contract says what it tells.
 pub fn environment_diagnostic(
     alloc: Global,
     name: &str,

@@ -28,8 +28,9 @@ pub fn lock_message(alloc: Global, name: &str, lock: &[u8]) -> Result<Option<Str
 /// Where the text is wrong that is refused so as a lock; `name` is the name given for the file.
 ///
 /// It names the byte that is no UTF-8, the line and column where the text is no TOML, or the first
-/// wrong key, with its entry and what stands there. The text is read again, and takes the memory
-/// of that. No contract says what it tells.
+/// wrong key, with its entry and what stands there. Of an empty file, a `pyproject.toml`, a
+/// `uv.lock` and of JSON the line says in place of that what the file is. The text is read again,
+/// and takes the memory of that. No contract says what it tells.
 pub fn lock_diagnostic(
     alloc: Global,
     name: &str,

@@ -1,10 +1,10 @@
 //! How places and file names of a lock are shown: with `***` for what opens them, the user and each
 //! value of the query. And whether a URL has such, and is of HTTPS.
 //!
-//! What a file without a hash is called in a finding, from `crates/pylock_audit/src/source.rt`:
+//! What a source is called in a finding, from `crates/pylock_audit/src/source.rt`:
 //!
 //! ```rust
-//! push_plain(list, source_text(alloc, source)?)
+//! SharedText::new(alloc, source_text(alloc, source)?)
 //! ```
 #![tactic(auto)]
 

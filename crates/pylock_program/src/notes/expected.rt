@@ -9,8 +9,8 @@ use pylock_run::Sink;
 use pymark_expected::{Fault, marker_fault, requirement_fault, set_fault};
 use std::alloc::{AllocError, Global};
 
-/// Tells of a text that is refused what was expected of it, and of a requirement and a set below that
-/// the text with a mark at the place. What memory or the write refuses is left out.
+/// Tells of a text that is refused what was expected of it; of a requirement and of a set there is
+/// the text below that, with a mark at the place. What memory or the write refuses is left out.
 pub(crate) fn tell_text<N: Sink>(alloc: Global, notes: &mut N, question: TextQuestion<'_>) {
     match question {
         TextQuestion::Version(text) => tell_sentence(alloc, notes, version_sentence(alloc, text)),

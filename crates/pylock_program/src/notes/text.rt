@@ -29,7 +29,7 @@ pub(crate) fn wheel_sentence(alloc: Global, text: &str) -> Option<&'static str> 
             "Expected NAME-VERSION-PYTHON-ABI-PLATFORM.whl, with -BUILD behind the version if any"
         }
         Err(WheelError::Name) => {
-            "Expected a name of ASCII letters, digits, `_` and `.`, without `__`, before the version"
+            "Expected a name of ASCII letters, digits, `_` and `.`, without `__`, at the beginning"
         }
         Err(WheelError::Version) => {
             "Expected a version such as 1.0 or 2.1rc1.post2 behind the name"

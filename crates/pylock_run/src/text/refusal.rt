@@ -84,8 +84,9 @@ pub fn push_environment_error(out: &mut Vec<u8>, error: &EnvError) -> Result<(),
     push_words(out, environment_words(error))
 }
 
-/// The words of a refusal of a lock or an environment: what is wrong, the number of the entry or the
-/// tag, which counts from 1, and what is wrong with that entry, or which key of the head is wrong.
+/// The words of a refusal of a lock or an environment: what is wrong, the number of the entry or
+/// the tag, which counts from 1, and what is wrong with that entry, or which key of the head is
+/// wrong.
 #[derive(Clone, Copy)]
 pub struct RefusalWords {
     /// What is wrong.

@@ -32,8 +32,8 @@ pub(crate) fn give_policy(
 }
 
 /// Gives each of the names the policy. Takes memory for the numbers of the names that are new, for
-/// a mark for each name that the session has met, and for the rows that it judges; and time for each
-/// entry.
+/// a mark for each name that the session has met, and for the rows that it judges; and time for
+/// each entry.
 pub(crate) fn give_policies(
     parts: &mut Parts,
     names: Vec<NormalName>,

@@ -103,8 +103,8 @@ pub(crate) fn set_policy(names: &mut Names, number: usize, policy: Policy)
     names.policies[number] = policy;
 }
 
-/// Gives each of these names a number, where it has none. Where there is no memory for it, all stays
-/// but for room and for numbers that no entry has.
+/// Gives each of these names a number, where it has none. Where there is no memory for it, all
+/// stays but for room and for numbers that no entry has.
 pub(crate) fn number_all(
     alloc: Global,
     names: &mut Names,
