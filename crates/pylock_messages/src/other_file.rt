@@ -3,9 +3,12 @@
 use std::alloc::{AllocError, Global};
 use toml::{Table, Value};
 
-/// Whether the text has nothing but white space.
+/// Whether the text has nothing but white space, behind a byte order mark or not.
 pub(crate) fn is_blank(text: &str) -> bool {
-    text.trim().is_empty()
+    text.strip_prefix('\u{feff}')
+        .unwrap_or(text)
+        .trim()
+        .is_empty()
 }
 
 /// Whether bytes begin as an object of JSON does, which no lock does.
@@ -47,9 +50,11 @@ fn is_table(value: Option<&Value>) -> bool {
     matches!(value, Some(Value::Table(_)))
 }
 
+/// Whether it has what every lock of uv has; one of Cargo has no `requires-python`.
 fn is_uv_lock(document: &Table) -> bool {
     matches!(document.get("version"), Some(Value::Integer(_)))
         && matches!(document.get("package"), Some(Value::Array(_)))
+        && document.contains_key("requires-python")
 }
 
 /// What is said of an environment that is no JSON, where it is empty or seems to be TOML.

@@ -29,6 +29,7 @@ fn condition_reason(
 ) -> Result<Option<String>, AllocError> {
     match (code, fault_detail(alloc, session, number, code)?) {
         (FaultCode::PythonNotMet, Some(set)) => Ok(Some(python_reason(alloc, session, set)?)),
+        (FaultCode::PythonUnknown, Some(set)) if set.is_empty() => Ok(None),
         (_, detail) => Ok(detail),
     }
 }

@@ -32,7 +32,7 @@ pub(crate) fn wheel_sentence(alloc: Global, text: &str) -> Option<&'static str> 
             "Expected a name of ASCII letters, digits, `_` and `.`, without `__`, at the beginning"
         }
         Err(WheelError::Version) => {
-            "Expected a version such as 1.0 or 2.1rc1.post2 behind the name"
+            "Expected a version with numbers of at most 128 bits, such as 1.0, behind the name"
         }
         Err(WheelError::Build) => {
             "Expected a build that begins with a digit, and a number in it of at most 128 bits"
@@ -53,7 +53,7 @@ pub(crate) fn sdist_sentence(alloc: Global, text: &str) -> Option<&'static str> 
             "Expected a name before the last `-`, of ASCII letters, digits, `.`, `_` and `-`"
         }
         Err(SdistError::Version) => {
-            "Expected a version such as 1.0 or 2.1rc1.post2 behind the last `-`"
+            "Expected a version with numbers of at most 128 bits, such as 1.0, behind the last `-`"
         }
         _ => return None,
     })
@@ -84,7 +84,9 @@ fn fault_sentence(alloc: Global, fault: EvalFault) -> Result<Option<String>, All
             return Ok(Some(format!(in alloc; "{name} has no value in this environment")?));
         }
         EvalFault::Extra => "extra has no value here; a lock's markers ask `'NAME' in extras`",
-        EvalFault::Undefined => "Expected versions on both sides of ~= or ===",
+        EvalFault::Undefined => {
+            "~= or === can't compare these texts; ~= wants versions, of two numbers on the right"
+        }
         EvalFault::NumberTooLarge => "Expected versions with numbers of at most 128 bits",
         EvalFault::Memory => return Err(AllocError),
     };
