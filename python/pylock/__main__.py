@@ -90,7 +90,10 @@ def _edit(session: _native.KeptSession, word: str, text: str, edit: Tuple[str, .
             raise _Refused(word, text, "no =")
         if edit[0] == "policy" and text == ":all:":
             entries = json.loads(_native.session_explain(session, True)[0])["entries"]
-            _native.session_edit_names(session, "policy", [entry["name"] for entry in entries], edit[2])
+            names = list(dict.fromkeys([entry["name"] for entry in entries]))
+            if not _native.session_edit_names(session, "policy", names, edit[2]):
+                for name in names:
+                    _native.session_edit(session, "policy", name, edit[2])
         else:
             _native.session_edit(session, *edit)
     except InvalidEdit as error:

@@ -239,12 +239,16 @@ _OF_SEVERAL = {
     "add_extra": "add_extras", "drop_extra": "drop_extras", "add_group": "add_groups", "drop_group": "drop_groups",
     "policy": "policies",
 }
+# so many policies at least are made as one: that looks at each entry, where one alone looks at those of its name
+_MANY_POLICIES = 64
 
 
 def session_edit_names(kept: KeptSession, edit: str, names: List[str], *more: str) -> bool:
     """Makes the edit of all of these names as one, where it is one of a name; `more` is the word of a policy. Gives whether
     that was done. Where one of them is refused none is made: by themselves they tell which."""
     if edit not in _OF_SEVERAL or not all([isinstance(name, str) and name and "\n" not in name for name in names]):
+        return False
+    if edit == "policy" and len(names) < _MANY_POLICIES:
         return False
     try:
         return kept.edit(_OF_SEVERAL[edit], None, "\n".join(names), *more) >= 0

@@ -501,7 +501,8 @@ class Lock(_OfThread):
         edits += [("add_group", name) for name in options.get("groups", ())]
         edits += [("drop_group", name) for name in options.get("without_groups", ())]
         for name, policy in options.get("policies", ()):
-            names = [package.name for package in self.packages] if name == ":all:" else [name]
+            # the entries of a name may be many: one edit is of all of them
+            names = dict.fromkeys([package.name for package in self.packages]) if name == ":all:" else (name,)
             edits += [("policy", each, policy) for each in names]
         edits += [("set", name, value) for name, value in (options.get("variables") or {}).items()]
         return edits
