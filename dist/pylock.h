@@ -1,6 +1,6 @@
 /* pylock: Python's packaging rules and the plan of a pylock.toml, for C.
  *
- * tools/library builds libpylock.a and libpylock.so. Every function of the library
+ * tools/make/library builds libpylock.a and libpylock.so. Every function of the library
  * is proved; what a caller has to uphold is on this page.
  *
  * TEXTS are a pointer and a length in bytes, need no 0 byte at their end, and
@@ -488,6 +488,12 @@ int32_t pylock_session_del(pylock_session *session, uint32_t number, uint64_t *j
 int32_t pylock_session_policy(pylock_session *session,
                               const uint8_t *name, size_t name_length,
                               const uint8_t *policy, size_t policy_length, uint64_t *judged);
+/* The same of several packages as one edit: their names as one text, with an LF between
+ * two and none at the end; the empty text is no names. The entries of a name are judged
+ * once. PYLOCK_EDIT_ARGUMENT (of the word, judged first), PYLOCK_EDIT_NAME. */
+int32_t pylock_session_policies(pylock_session *session,
+                                const uint8_t *names, size_t names_length,
+                                const uint8_t *policy, size_t policy_length, uint64_t *judged);
 
 /* One edit line, as `pylock select` reads it, without its LF; `show` edits nothing and
  * sets `*judged` to 0. Its length is judged before its UTF-8. PYLOCK_EDIT_*. */
