@@ -42,12 +42,12 @@ EDITS = (
 
 
 class Row:
-    """A call: a function, and what makes its arguments anew each time. `error` is what it raises, or None. Where a growth is
+    """A call: a function, and what makes its arguments anew each time. `error` is what it raises, or None. Where an allocation is
     refused to the frame of a function in Python, that loses the exception, and what was iterated can't be made again: calls with
-    such aren't for `growths`."""
+    such aren't for `allocations`."""
 
-    def __init__(self, name, function, make, error=None, growths=True):
-        self.name, self.function, self.make, self.error, self.growths = name, function, make, error, growths
+    def __init__(self, name, function, make, error=None, allocations=True):
+        self.name, self.function, self.make, self.error, self.allocations = name, function, make, error, allocations
 
 
 def fixed(*arguments):
@@ -134,10 +134,10 @@ def of_versions():
     for text in ("1.0", "1!2.3.rc4.post5-dev6+Local.7", LONG):
         for named in ({}, {"local": None}, {"pre": ("b", 2)}, {"local": "x.1"}, {"pre": ("Alpha", 2)}, {"local": "X-1"}, {"post": 2**70}):
             yield Row("%.12s.__replace__(%r)" % (text, named), lambda one, named=named: one.__replace__(**named), lambda text=text: (pylock.Version(fresh(text)),),
-                      growths=False)
+                      allocations=False)
     for named in ({"release": (1, 2)}, {"release": (1, 2), "epoch": 1, "pre": ("rc", 3), "post": 4, "dev": 5, "local": "x.1"}, {"release": (1,), "local": "01"}):
-        yield Row("from_parts(%r)" % named, lambda named=named: pylock.Version.from_parts(**named), fixed(), growths=False)
-    yield Row("from_parts, refused", lambda: pylock.Version.from_parts(release=(-1,)), fixed(), pylock.InvalidVersion, growths=False)
+        yield Row("from_parts(%r)" % named, lambda named=named: pylock.Version.from_parts(**named), fixed(), allocations=False)
+    yield Row("from_parts, refused", lambda: pylock.Version.from_parts(release=(-1,)), fixed(), pylock.InvalidVersion, allocations=False)
     for word in ("Preview", "x", "\xc4" * 9, "\u212a"):
         yield Row("normalize_pre(%a)" % word, _native.normalize_pre, lambda word=word: (fresh(word),))
     yield Row("of no text", hash, lambda: (_native.Version.__new__(WithInit),), ValueError)
@@ -291,10 +291,10 @@ def of_tags():
         yield Row("parse_tag(%a) in order" % text, lambda text: _native.parse_tag(text, validate_order=True), lambda text=text: (fresh(text),))
     for text in ("py3.py2-none-any", "\xe9.py2-none-any"):
         yield Row("parse_tag(%a), not in order" % text, lambda text: _native.parse_tag(text, validate_order=True), fixed(text), pylock.UnsortedTagsError,
-                  growths=False)
+                  allocations=False)
     for text, error in (("a-1-py2.py3-none-any.whl", None), ("a-1-py3.py2-none-any.whl", pylock.InvalidWheelFilename)):
         yield Row("parse_wheel_filename(%s) in order" % text, lambda text: _native.parse_wheel_filename(text, validate_order=True), fixed(text), error,
-                  growths=False)
+                  allocations=False)
     for behind in ("_x", "_\xe9" * 300):
         yield Row("numbered(%.3a)" % behind, _native.numbered, lambda behind=behind: (fresh("ios_"), 12, 8, fresh(behind)))
     yield Row("Tag of capitals", _native.Tag, lambda: (fresh("CP310"), fresh("abi3"), fresh("ANY")))
@@ -332,13 +332,13 @@ def of_kept():
     for key in (None, str):
         for prereleases in (None, True, False):
             yield Row("list(Set.filter(%s, %s))" % (prereleases, key), list,
-                      lambda prereleases=prereleases, key=key: (of_filter(">=1.dev0", ["1.0rc1", version("1"), "0", "x", fresh("1!2")], prereleases, key),), growths=False)
-    yield Row("list(Set.filter) of pre-releases", list, lambda: (of_filter("<2", ["1rc1", version("2"), "1.dev0"]),), growths=False)
-    yield Row("list(Set.filter), refused", list, lambda: (of_filter("<2", ["1rc1", 5]),), TypeError, growths=False)
-    yield Row("next(Set.filter)", next, lambda: (of_filter("<2", ["1rc1", "1", "1.1"]),), growths=False)
+                      lambda prereleases=prereleases, key=key: (of_filter(">=1.dev0", ["1.0rc1", version("1"), "0", "x", fresh("1!2")], prereleases, key),), allocations=False)
+    yield Row("list(Set.filter) of pre-releases", list, lambda: (of_filter("<2", ["1rc1", version("2"), "1.dev0"]),), allocations=False)
+    yield Row("list(Set.filter), refused", list, lambda: (of_filter("<2", ["1rc1", 5]),), TypeError, allocations=False)
+    yield Row("next(Set.filter)", next, lambda: (of_filter("<2", ["1rc1", "1", "1.1"]),), allocations=False)
     yield Row("Set.filter", _native.Set.filter, lambda: (_native.Set("<2"), ["1rc1"], None, str))
     yield Row("Set.filter of nothing", _native.Set.filter, lambda: (_native.Set("<2"), 5), TypeError)
-    yield Row("Set.is_unsatisfiable", pylock.SpecifierSet.is_unsatisfiable, lambda: (pylock.SpecifierSet(">=1,<2"),), growths=False)
+    yield Row("Set.is_unsatisfiable", pylock.SpecifierSet.is_unsatisfiable, lambda: (pylock.SpecifierSet(">=1,<2"),), allocations=False)
     yield Row("Set again", _native.Set.__init__, lambda: (_native.Set(">=1"), "<2"))
     yield Row("Set of no text", str, lambda: (_native.Set.__new__(_native.Set),), ValueError)
     yield Row("Set, refused", _native.Set, fixed("?"), pylock.InvalidSpecifier)

@@ -1,6 +1,6 @@
-/* The module _refuse, for tools/check/native: a call in which the Nth growth of memory is refused, alone or with all behind it.
+/* The module _refuse, for tools/check/native: a call in which the Nth allocation of memory is refused, alone or with all behind it.
  *
- * A growth is a malloc, calloc or realloc of Python's allocators, or of the library that is linked into `_native`, whose
+ * An allocation is a malloc, calloc or realloc of Python's allocators, or of the library that is linked into `_native`, whose
  * calls native_wrap.c sends here. It counts what the library holds too. */
 #include <Python.h>
 
@@ -12,16 +12,16 @@ static PyMemAllocatorEx below[3];
 
 static bool is_armed, and_behind;
 static pthread_t armed_thread;
-static unsigned long growths, refused_one;
+static unsigned long allocations, refused_one;
 static long held;
 
-/* Whether this growth is refused. */
-bool refuse_growth(void);
-bool refuse_growth(void)
+/* Whether this allocation is refused. */
+bool refuse_allocation(void);
+bool refuse_allocation(void)
 {
     if (!is_armed || !pthread_equal(pthread_self(), armed_thread)) return false;
-    growths++;
-    return growths == refused_one || (and_behind && growths > refused_one);
+    allocations++;
+    return allocations == refused_one || (and_behind && allocations > refused_one);
 }
 
 /* What the library holds grew by so many blocks. */
@@ -34,19 +34,19 @@ void refuse_count(long blocks)
 static void *hook_malloc(void *context, size_t size)
 {
     PyMemAllocatorEx *allocator = context;
-    return refuse_growth() ? NULL : allocator->malloc(allocator->ctx, size);
+    return refuse_allocation() ? NULL : allocator->malloc(allocator->ctx, size);
 }
 
 static void *hook_calloc(void *context, size_t count, size_t size)
 {
     PyMemAllocatorEx *allocator = context;
-    return refuse_growth() ? NULL : allocator->calloc(allocator->ctx, count, size);
+    return refuse_allocation() ? NULL : allocator->calloc(allocator->ctx, count, size);
 }
 
 static void *hook_realloc(void *context, void *block, size_t size)
 {
     PyMemAllocatorEx *allocator = context;
-    return refuse_growth() ? NULL : allocator->realloc(allocator->ctx, block, size);
+    return refuse_allocation() ? NULL : allocator->realloc(allocator->ctx, block, size);
 }
 
 static void hook_free(void *context, void *block)
@@ -63,7 +63,7 @@ static PyObject *call(PyObject *module, PyObject *arguments)
     int behind;
     (void)module;
     if (!PyArg_ParseTuple(arguments, "OO!kp", &function, &PyTuple_Type, &given, &nth, &behind)) return NULL;
-    growths = 0;
+    allocations = 0;
     refused_one = nth;
     and_behind = behind && nth > 0;
     armed_thread = pthread_self();
@@ -73,10 +73,10 @@ static PyObject *call(PyObject *module, PyObject *arguments)
     return result;
 }
 
-static PyObject *last_growths(PyObject *module, PyObject *nothing)
+static PyObject *last_allocations(PyObject *module, PyObject *nothing)
 {
     (void)module, (void)nothing;
-    return PyLong_FromUnsignedLong(growths);
+    return PyLong_FromUnsignedLong(allocations);
 }
 
 static PyObject *library_blocks(PyObject *module, PyObject *nothing)
@@ -87,7 +87,7 @@ static PyObject *library_blocks(PyObject *module, PyObject *nothing)
 
 static PyMethodDef functions[] = {
     {"call", call, METH_VARARGS, NULL},
-    {"growths", last_growths, METH_NOARGS, NULL},
+    {"allocations", last_allocations, METH_NOARGS, NULL},
     {"blocks", library_blocks, METH_NOARGS, NULL},
     {NULL, NULL, 0, NULL},
 };

@@ -3,7 +3,7 @@
 #include <stdbool.h>
 #include <stddef.h>
 
-bool refuse_growth(void);
+bool refuse_allocation(void);
 void refuse_count(long blocks);
 
 void *__real_malloc(size_t size);
@@ -17,7 +17,7 @@ void __wrap_free(void *block);
 
 static bool is_refused(void)
 {
-    if (!refuse_growth()) return false;
+    if (!refuse_allocation()) return false;
     errno = ENOMEM;
     return true;
 }

@@ -1,6 +1,6 @@
 /* Calls each function of the library for C: answers, refusals, buffers that are too small, empty
    slots, texts that are no UTF-8. With the word `edits` it makes edits of each kind in two sessions
-   instead. The last line counts. With REFUSE_GROWTH (tools/check/growths/refuse.c) a call may answer
+   instead. The last line counts. With REFUSE_ALLOCATION (tools/check/allocations/refuse.c) a call may answer
    PYLOCK_MEMORY; it has changed nothing then, so it is made again. */
 #include "pylock.h"
 
@@ -13,7 +13,7 @@ static bool may_refuse;
 
 #define TEXT(text) (const uint8_t *)(text), strlen(text)
 
-/* whether a growth of the call was refused */
+/* whether an allocation of the call was refused */
 static bool gave_up(int32_t code)
 {
     return may_refuse && code == PYLOCK_MEMORY;
@@ -1123,7 +1123,7 @@ static void read_entries(void)
     pylock_session_free(&session);
 }
 
-/* The last number is given out. Not with refused growths, which would be too many, so it isn't
+/* The last number is given out. Not with refused allocations, which would be too many, so it isn't
    counted. */
 static void last_number(void)
 {
@@ -1251,7 +1251,7 @@ static bool are_named(const char *lines, const char *names)
     return strcmp(found, names) == 0;
 }
 
-/* Makes the edit of a step, a second time where a growth of it was refused: it has changed nothing
+/* Makes the edit of a step, a second time where an allocation of it was refused: it has changed nothing
    then of what the session showed before it. */
 static void take(pylock_session *session, const struct step *step, struct shown *shown)
 {
@@ -1385,7 +1385,7 @@ static void calls(void)
 
 int main(int count, char **words)
 {
-    may_refuse = getenv("REFUSE_GROWTH") != NULL;
+    may_refuse = getenv("REFUSE_ALLOCATION") != NULL;
     if (count > 1 && strcmp(words[1], "edits") == 0)
         edits();
     else

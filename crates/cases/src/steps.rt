@@ -1,5 +1,5 @@
 //! A lock that is read, values of its first marker, and a session with its edits and answers, a
-//! step after the other: `tools/check/growths/run` counts the growths of each step, and
+//! step after the other: `tools/check/allocations/run` counts the allocations of each step, and
 //! `tools/measure/speed` takes the time of the reading and of the start.
 
 use crate::edits::read_edit;

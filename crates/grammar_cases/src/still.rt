@@ -1,6 +1,6 @@
 //! Calls that take no memory. Each is made of a value and of its copy, as often as `times` says,
-//! and a case tells whether both always answer alike. `tools/check/growths/run` compares the
-//! growths of a run that makes the calls once with those of one that makes them nine times.
+//! and a case tells whether both always answer alike. `tools/check/allocations/run` compares the
+//! allocations of a run that makes the calls once with those of one that makes them nine times.
 
 use crate::environments::{set_all, version};
 use crate::markers::evaluate;

@@ -56,7 +56,7 @@ pub enum StrictError {
     Lock(LockError),
     /// It is valid, and these are found in it, of which there is at least one.
     Findings(Findings),
-    /// A growth was refused.
+    /// An allocation was refused.
     Memory,
 }
 

@@ -26,7 +26,7 @@ pub enum CommandError {
     /// Clap refuses the words, or they ask for help or the version, or clap takes them and they ask
     /// for nothing. The error says which stream and status it wants.
     Refused(clap::Error),
-    /// A growth was refused.
+    /// An allocation was refused.
     Memory,
 }
 

@@ -77,7 +77,7 @@ impl Misuse {
 pub(crate) enum NoTask {
     /// The words ask for nothing.
     Misused(Misuse),
-    /// A growth was refused.
+    /// An allocation was refused.
     Memory,
 }
 

@@ -37,7 +37,7 @@ lines_poured f text lines i line old mid new out full last within is before push
     subst (λ t. Pours old new t last) (with_line f text lines i line within is)
     (Pours-more old mid new (text ++ flat_map f (take i lines)) out (f line) last before (subst (λ t. Pours mid new t last) pushed after))
 
--- a growth was refused
+-- an allocation was refused
 pub lines_refused : {X : Type 0} (f : X → List ℕ) (text : List ℕ) (lines : List X) (i status : ℕ) (old mid : SinkValue) (out : List ℕ)
     → Pours old mid (text ++ flat_map f (take i lines)) out → Prints (record { text = text ++ flat_map f lines; status = status }) old mid (Err Memory)
 lines_refused f text lines i status old mid out before = record {

@@ -5,7 +5,7 @@ use Rattle.pylock_run.specs.Report.Run.{most_lines}
 use Rattle.pylock_run.specs.Stream.{SinkValue, one_more}
 use Rattle.pylock_run.specs.declared.report.fault.RunFault.{RunFault}
 
--- as many lines are complete as there may be, and one more byte came; or a growth was refused
+-- as many lines are complete as there may be, and one more byte came; or an allocation was refused
 abbrev pub IsTakeFault : ℕ → RunFault → Type 0
 IsTakeFault complete fault = HasCause (record {
   read = ⊥;
@@ -23,7 +23,7 @@ IsWriteFault sink sink' fault = HasCause (record {
   memory = ⊥;
 }) fault
 
--- a write failed; or more lines begin than there may be; or a growth was refused
+-- a write failed; or more lines begin than there may be; or an allocation was refused
 abbrev pub IsFeedFault : SinkValue → SinkValue → ℕ → RunFault → Type 0
 IsFeedFault sink sink' begun fault = HasCause (record {
   read = ⊥;

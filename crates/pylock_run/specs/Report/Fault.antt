@@ -3,7 +3,7 @@ use Rattle.pylock_run.specs.declared.report.fault.RunFault.{RunFault}
 use Rattle.pylock_run.specs.declared.report.fault.RunFault.TheVariants as fault
 
 -- what each fault needs: that a read failed, that a write failed, that the input passes a limit, or
--- that a growth was refused
+-- that an allocation was refused
 pub record Causes : Type 1 where
   pub read : Type 0
   pub write : Type 0

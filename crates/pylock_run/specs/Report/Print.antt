@@ -8,7 +8,7 @@ use Rattle.pylock_run.specs.Report.Fault.{HasCause}
 use Rattle.pylock_run.specs.Stream.{SinkValue, TakesPrefix, one_more}
 use Rattle.pylock_run.specs.declared.report.fault.RunFault.{RunFault}
 
--- one write failed, or a growth was refused and no write failed
+-- one write failed, or an allocation was refused and no write failed
 abbrev pub IsOutputFault : SinkValue → SinkValue → RunFault → Type 0
 IsOutputFault sink sink' fault = HasCause (record {
   read = ⊥;
@@ -27,8 +27,8 @@ pub record Prints (report : Report) (sink sink' : SinkValue) (result : Result �
   pub prefix : OnErr result (TakesPrefix sink sink' report.text)
   pub fault : IfErr result (IsOutputFault sink sink')
 
--- the report stands behind what stood before, and its status is the result; nothing is said where a
--- growth was refused
+-- the report stands behind what stood before, and its status is the result; nothing is said where
+-- an allocation was refused
 abbrev pub Pushes : List ℕ → List ℕ → Report → Result ℕ AllocError → Type 0
 Pushes old new report (Ok status) = (new ≡ old ++ report.text) × (status ≡ report.status)
 Pushes old new report (Err refused) = Unit {0}

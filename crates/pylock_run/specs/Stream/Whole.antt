@@ -29,8 +29,8 @@ pub record GivesPast (limit : ℕ) (old new : SourceValue) : Type 0 where
   pub past : limit < length given
 
 -- The fault that was met first, and that no other was met before it: one read failed within the
--- limit; or the limit was passed before a read failed; or a growth was refused before either. A
--- source that is open is there to be read.
+-- limit; or the limit was passed before a read failed; or an allocation was refused before either.
+-- A source that is open is there to be read.
 abbrev pub IsCause : ℕ → SourceValue → SourceValue → FileFault → Type 0
 IsCause limit old new Read = GivesWithin limit old new × (new.failures ≡ one_more old.failures)
 IsCause limit old new Limit = GivesPast limit old new × (new.failures ≡ old.failures)

@@ -37,7 +37,7 @@ pub enum LineRefusal {
     NoEntry,
     /// Its name is no name (PEP 503).
     Name,
-    /// A growth was refused. The line isn't, and this is never printed.
+    /// An allocation was refused. The line isn't, and this is never printed.
     Memory,
 }
 

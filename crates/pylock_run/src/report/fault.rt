@@ -14,7 +14,7 @@ pub enum RunFault {
     Write,
     /// The input has more than 1,000,000 lines or more than 268,435,456 bytes.
     Input,
-    /// A growth was refused.
+    /// An allocation was refused.
     Memory,
 }
 

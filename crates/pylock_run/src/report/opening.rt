@@ -16,7 +16,7 @@ pub enum OpenError {
     Lock(LockError),
     /// The environment is refused.
     Environment(EnvError),
-    /// A growth was refused.
+    /// An allocation was refused.
     Memory,
 }
 

@@ -24,7 +24,7 @@ pub enum FileFault {
     Read,
     /// The source gave more bytes than the limit.
     Limit,
-    /// A growth was refused.
+    /// An allocation was refused.
     Memory,
 }
 

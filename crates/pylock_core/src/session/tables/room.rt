@@ -1,4 +1,4 @@
-//! Growth made before it is used: what was reserved is filled without memory.
+//! Allocations made before they are used: what was reserved is filled without memory.
 
 ghost use Rattle.std.specs.Prelude.{◌≡◌, ◌<◌, ◌+◌, ◌++◌, ◌∷◌, [], length, slice_set, vec_len};
 ghost use Rattle.std.specs.Prelude.{vec_capacity};

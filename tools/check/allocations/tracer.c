@@ -6,12 +6,12 @@
    WRITE_BYTES    where it isn't 0, the most bytes that a write to standard output takes
    FAIL_WRITE     the number of the write to standard output that fails
    EMPTY_WRITE    the number of the write to standard output that takes nothing
-   REFUSE_MEMORY  the number of the growth that is refused, as all behind it are: where one kind of request is refused
+   REFUSE_MEMORY  the number of the allocation that is refused, as all behind it are: where one kind of request is refused
                   the C library tries another, so the program wouldn't learn of one alone
-   REFUSE_MARK    the file that is created where a growth is refused
-   COUNT_GROWTHS  the file that gets the number of growths at the end
+   REFUSE_MARK    the file that is created where an allocation is refused
+   COUNT_ALLOCATIONS  the file that gets the number of allocations at the end
 
-   A growth is a request to the system for memory: a brk that raises the break, an mmap of no file, an mremap to more.
+   An allocation is a request to the system for memory: a brk that raises the break, an mmap of no file, an mremap to more.
    They are counted from the first instruction of `main`: those before it are the C library's, which ends the process
    in its own way where it gets none.
 
@@ -43,7 +43,7 @@ typedef struct user_regs_struct registers;
 
 static unsigned long read_bytes, fail_read, write_bytes, fail_write, empty_write, refuse_memory;
 static const char *mark, *count;
-static unsigned long reads, writes, growths;
+static unsigned long reads, writes, allocations;
 static unsigned long long top;   /* the break */
 static unsigned long long begin; /* the address of `main` */
 static long hidden;              /* what stands there in place of the breakpoint */
@@ -70,7 +70,7 @@ static unsigned long number(const char *name)
     return text ? strtoul(text, NULL, 10) : 0;
 }
 
-static int counts_growths(void)
+static int counts_allocations(void)
 {
     return refuse_memory || count;
 }
@@ -124,7 +124,7 @@ static int filters(void)
         stop_at_file(SYS_read, STDIN_FILENO);
     if (write_bytes || fail_write || empty_write)
         stop_at_file(SYS_write, STDOUT_FILENO);
-    if (counts_growths()) {
+    if (counts_allocations()) {
         stop_at(SYS_brk);
         stop_at(SYS_mmap);
         stop_at(SYS_mremap);
@@ -172,7 +172,7 @@ static unsigned long long main_of(pid_t program)
 
 static void await_main(pid_t program)
 {
-    if (!counts_growths())
+    if (!counts_allocations())
         return;
     begin = main_of(program);
     errno = 0;
@@ -228,7 +228,7 @@ static void change_write(registers *call)
         shorten(call, write_bytes);
 }
 
-static int is_growth(const registers *call)
+static int is_allocation(const registers *call)
 {
     switch (call->orig_rax) {
     case SYS_brk:
@@ -253,7 +253,7 @@ static void refuse(registers *call)
 
 static void change_memory(registers *call)
 {
-    if (begun && is_growth(call) && ++growths >= refuse_memory && refuse_memory)
+    if (begun && is_allocation(call) && ++allocations >= refuse_memory && refuse_memory)
         refuse(call);
 }
 
@@ -350,11 +350,11 @@ int main(int words, char **word)
     empty_write = number("EMPTY_WRITE");
     refuse_memory = number("REFUSE_MEMORY");
     mark = taken("REFUSE_MARK");
-    count = taken("COUNT_GROWTHS");
+    count = taken("COUNT_ALLOCATIONS");
     int status = follow(start(word + 1));
     FILE *file = count ? fopen(count, "w") : NULL;
     if (file) {
-        fprintf(file, "%lu\n", growths);
+        fprintf(file, "%lu\n", allocations);
         fclose(file);
     }
     return status;

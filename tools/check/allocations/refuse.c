@@ -1,7 +1,7 @@
-/* Preloaded below a test: counts the growths (the calls of malloc and realloc) of the process,
-   and refuses the Nth, N standing in REFUSE_GROWTH; none where that is 0 or absent. Where it
+/* Preloaded below a test: counts the allocations (the calls of malloc and realloc) of the process,
+   and refuses the Nth, N standing in REFUSE_ALLOCATION; none where that is 0 or absent. Where it
    refused one, it creates the file that REFUSE_MARK names, so that a caller knows that the Nth
-   growth was reached. At the end it writes their number into the file that COUNT_GROWTHS names. */
+   allocation was reached. At the end it writes their number into the file that COUNT_ALLOCATIONS names. */
 #define _GNU_SOURCE
 #include <dlfcn.h>
 #include <errno.h>
@@ -11,24 +11,24 @@
 #include <stdlib.h>
 #include <unistd.h>
 
-static unsigned long growths;
+static unsigned long allocations;
 static unsigned long refused_one;
 static const char *mark;
 static const char *count;
 
 __attribute__((constructor)) static void start(void)
 {
-    const char *number = getenv("REFUSE_GROWTH");
+    const char *number = getenv("REFUSE_ALLOCATION");
     mark = getenv("REFUSE_MARK");
-    count = getenv("COUNT_GROWTHS");
-    growths = 0;
+    count = getenv("COUNT_ALLOCATIONS");
+    allocations = 0;
     refused_one = number ? strtoul(number, NULL, 10) : 0;
 }
 
 __attribute__((destructor)) static void end(void)
 {
     char text[32];
-    int length = snprintf(text, sizeof text, "%lu\n", growths);
+    int length = snprintf(text, sizeof text, "%lu\n", allocations);
     if (count) {
         int file = open(count, O_CREAT | O_WRONLY | O_TRUNC, 0600);
         if (file >= 0) {
@@ -41,7 +41,7 @@ __attribute__((destructor)) static void end(void)
 
 static int refuses(void)
 {
-    if (++growths != refused_one)
+    if (++allocations != refused_one)
         return 0;
     if (mark) {
         int file = open(mark, O_CREAT | O_WRONLY, 0600);

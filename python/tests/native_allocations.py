@@ -1,4 +1,4 @@
-"""Each growth of memory in each call of `_native` is refused in turn, of Python and of the library, alone and with all behind
+"""Each allocation of memory in each call of `_native` is refused in turn, of Python and of the library, alone and with all behind
 it: the call does what it does otherwise or raises MemoryError, leaves its arguments as they were, and holds nothing."""
 
 import gc
@@ -28,7 +28,7 @@ def seen(arguments):
     return [native_calls.shown(argument) for argument in arguments if not isinstance(argument, (str, bytes))]
 
 
-class Growths(unittest.TestCase):
+class Allocations(unittest.TestCase):
     def expected(self, row):
         arguments = row.make()
         found = outcome(row, arguments, 0, False)
@@ -36,7 +36,7 @@ class Growths(unittest.TestCase):
         return found, seen(arguments)
 
     def refuse_each(self, row, behind):
-        """Refuses each growth in turn; how many there were, and how often that was told."""
+        """Refuses each allocation in turn; how many there were, and how often that was told."""
         told = 0
         expected, after = self.expected(row)
         for nth in range(1, MOST):
@@ -44,7 +44,7 @@ class Growths(unittest.TestCase):
             # to look at an argument finds what it keeps
             before = seen(row.make())
             found = outcome(row, arguments, nth, behind)
-            reached = _refuse.growths() >= nth
+            reached = _refuse.allocations() >= nth
             if found is MemoryError:
                 told += 1
                 if nth % 2:
@@ -67,7 +67,7 @@ class Growths(unittest.TestCase):
             self.assertEqual(_refuse.blocks(), before[0], row.name)
             if sys.getallocatedblocks() <= before[1]:
                 return counts[0]
-        # what the interpreter keeps for itself it keeps once; what a growth leaves behind it leaves each time
+        # what the interpreter keeps for itself it keeps once; what an allocation leaves behind it leaves each time
         for behind in (False, True):
             for nth in range(1, counts[0][0] + 1):
                 self.level_many(row, nth, behind)
@@ -89,19 +89,19 @@ class Growths(unittest.TestCase):
 
 def test_of(row):
     def test(self):
-        growths.append(self.level(row)[0])
+        allocations.append(self.level(row)[0])
 
     return test
 
 
-growths = []
-for number, one in enumerate(row for row in native_calls.rows() if row.growths):
-    setattr(Growths, "test_%03d" % number, test_of(one))
-    getattr(Growths, "test_%03d" % number).__doc__ = one.name
+allocations = []
+for number, one in enumerate(row for row in native_calls.rows() if row.allocations):
+    setattr(Allocations, "test_%03d" % number, test_of(one))
+    getattr(Allocations, "test_%03d" % number).__doc__ = one.name
 
 
 def tearDownModule():
-    print("native: %d growths refused in each of two ways" % sum(growths))
+    print("native: %d allocations refused in each of two ways" % sum(allocations))
 
 
 if __name__ == "__main__":
