@@ -2,44 +2,25 @@
 
 use case_files::text;
 use pylock_pointed::pointed_lines;
-use pymark_expected::{Fault, marker_fault, requirement_fault, set_fault, specifier_fault};
+use pymark_expected::Fault;
 use std::alloc::{AllocError, Global};
 use toml::Table;
 
-/// What was expected of `requirement`, with the text and its stretch below.
-pub(crate) fn of_requirement(alloc: Global, case: &Table) -> anyhow::Result<String> {
-    let text = text(alloc, case, "requirement")?;
-    let fault = requirement_fault(alloc, text.as_str())?;
-    Ok(shown(alloc, text.as_str(), fault)?)
-}
-
-/// The same of `marker`.
-pub(crate) fn of_marker(alloc: Global, case: &Table) -> anyhow::Result<String> {
-    let text = text(alloc, case, "marker")?;
-    let fault = marker_fault(alloc, text.as_str())?;
-    Ok(shown(alloc, text.as_str(), fault)?)
-}
-
-/// The same of the specifier set `set`.
-pub(crate) fn of_set(alloc: Global, case: &Table) -> anyhow::Result<String> {
-    let text = text(alloc, case, "set")?;
-    let fault = set_fault(alloc, text.as_str())?;
-    Ok(shown(alloc, text.as_str(), fault)?)
-}
-
-/// The same of `specifier`.
-pub(crate) fn of_specifier(alloc: Global, case: &Table) -> anyhow::Result<String> {
-    let text = text(alloc, case, "specifier")?;
-    let fault = specifier_fault(alloc, text.as_str())?;
-    Ok(shown(alloc, text.as_str(), fault)?)
-}
-
-/// The sentence, and the lines that point at the place.
-fn shown(alloc: Global, text: &str, fault: Option<Fault>) -> Result<String, AllocError> {
-    let Some(fault) = fault else {
-        return String::from_str(alloc, "taken");
+/// The sentence of the fault that `find` finds in the text of the key, and the lines that point at
+/// its place.
+pub(crate) fn point<F: Fn(Global, &str) -> Result<Option<Fault>, AllocError> + Copy>(
+    alloc: Global,
+    case: &Table,
+    key: &str,
+    find: F,
+) -> anyhow::Result<String>
+    requires { F.IsAlwaysCallable find }
+{
+    let text = text(alloc, case, key)?;
+    let Some(fault) = find(alloc, text.as_str())? else {
+        return Ok(String::from_str(alloc, "taken")?);
     };
-    let lines = pointed_lines(alloc, text, &fault)?;
+    let lines = pointed_lines(alloc, text.as_str(), &fault)?;
     let sentence = fault.expected;
-    format!(in alloc; "{sentence}\n{lines}")
+    Ok(format!(in alloc; "{sentence}\n{lines}")?)
 }
