@@ -2,25 +2,27 @@
 
 use case_files::text;
 use pylock_pointed::pointed_lines;
-use pymark_expected::Fault;
+use pymark_expected::{Fault, marker_fault, requirement_fault, set_fault, specifier_fault};
 use std::alloc::{AllocError, Global};
 use toml::Table;
 
-/// The sentence of the fault that `find` finds in the text of the key, and the lines that point at
-/// its place.
-pub(crate) fn point<F: Fn(Global, &str) -> Result<Option<Fault>, AllocError> + Copy>(
-    alloc: Global,
-    case: &Table,
-    key: &str,
-    find: F,
-) -> anyhow::Result<String>
-    requires { F.IsAlwaysCallable find }
-{
+/// What was expected of the text of the key, and the lines that point at the place.
+pub(crate) fn point(alloc: Global, case: &Table, key: &str) -> anyhow::Result<String> {
     let text = text(alloc, case, key)?;
-    let Some(fault) = find(alloc, text.as_str())? else {
+    let Some(fault) = fault_of(alloc, key, text.as_str())? else {
         return Ok(String::from_str(alloc, "taken")?);
     };
     let lines = pointed_lines(alloc, text.as_str(), &fault)?;
     let sentence = fault.expected;
     Ok(format!(in alloc; "{sentence}\n{lines}")?)
+}
+
+/// The fault of the text, read as what the key names.
+fn fault_of(alloc: Global, key: &str, text: &str) -> Result<Option<Fault>, AllocError> {
+    match key {
+        "marker" => marker_fault(alloc, text),
+        "requirement" => requirement_fault(alloc, text),
+        "set" => set_fault(alloc, text),
+        _ => specifier_fault(alloc, text),
+    }
 }

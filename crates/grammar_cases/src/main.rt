@@ -20,7 +20,6 @@ mod wheels;
 use crate::told::{compare, printed_text, tell};
 use case_files::{Answers, print_files};
 use pymark_core::Marker;
-use pymark_expected::{marker_fault, requirement_fault, set_fault, specifier_fault};
 use pyver_core::{Specifier, SpecifierSet, Version};
 use std::alloc::Global;
 use std::env;
@@ -38,15 +37,10 @@ impl Answers for Cases {
             "different" => versions::count(alloc, case),
             "environment" => environments::answer_case(alloc, case),
             "equality" => compare(alloc, case, SpecifierSet::parse, SpecifierSet::eq),
-            "expected_marker" => expected::point(alloc, case, "marker", marker_fault),
-            "expected_requirement" => expected::point(
-                alloc,
-                case,
-                "requirement",
-                requirement_fault,
-            ),
-            "expected_set" => expected::point(alloc, case, "set", set_fault),
-            "expected_specifier" => expected::point(alloc, case, "specifier", specifier_fault),
+            "expected_marker" => expected::point(alloc, case, "marker"),
+            "expected_requirement" => expected::point(alloc, case, "requirement"),
+            "expected_set" => expected::point(alloc, case, "set"),
+            "expected_specifier" => expected::point(alloc, case, "specifier"),
             "from_parts" => versions::make_version(alloc, case),
             "front" => sets::cut(alloc, case),
             "items" => sets::tell_items(alloc, case),
