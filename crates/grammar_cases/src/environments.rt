@@ -6,15 +6,12 @@ use pymark_core::{Environment, Names, Var};
 use std::alloc::{AllocError, Global};
 use toml::{Table, Value};
 
-/// Gives the environment the `variables`, the `extras` and the `groups` of a case; and each line of
-/// `names` as an extra and as a group.
-pub(crate) fn set_all(
-    environment: &mut Environment,
-    alloc: Global,
-    case: &Table,
-) -> anyhow::Result<()> {
+/// The environment of the `variables`, the `extras` and the `groups` of a case; each line of
+/// `names` is an extra and a group too.
+pub(crate) fn environment_of(alloc: Global, case: &Table) -> anyhow::Result<Environment> {
+    let mut environment = Environment::new(alloc);
     if let Some(Value::Table(variables)) = case.get("variables") {
-        set_variables(environment, alloc, variables)?;
+        set_variables(&mut environment, alloc, variables)?;
     }
     for extra in texts(alloc, case, "extras")? {
         environment.add_extra(extra)?;
@@ -22,8 +19,8 @@ pub(crate) fn set_all(
     for group in texts(alloc, case, "groups")? {
         environment.add_group(group)?;
     }
-    let names = text(alloc, case, "names")?;
-    Ok(add_names(environment, names.as_str())?)
+    add_names(&mut environment, text(alloc, case, "names")?.as_str())?;
+    Ok(environment)
 }
 
 /// Asks for the extra and for the group of each line.
@@ -52,30 +49,11 @@ fn set_variables(
 /// after them; then each of `later`, and each of `copied` of the copy.
 pub(crate) fn answer_case(alloc: Global, case: &Table) -> anyhow::Result<String> {
     let mut environment = Environment::new(alloc);
-    calls_text(alloc, &mut environment, case)
-}
-
-fn calls_text(
-    alloc: Global,
-    environment: &mut Environment,
-    case: &Table,
-) -> anyhow::Result<String> {
-    let mut told = answers(alloc, environment, case, "calls")?;
+    let called = answers(alloc, &mut environment, case, "calls")?;
     let mut copy = environment.copy()?;
-    push_later(&mut told, alloc, environment, &mut copy, case)?;
-    Ok(told)
-}
-
-fn push_later(
-    told: &mut String,
-    alloc: Global,
-    environment: &mut Environment,
-    copy: &mut Environment,
-    case: &Table,
-) -> anyhow::Result<()> {
-    let later = answers(alloc, environment, case, "later")?;
-    let copied = answers(alloc, copy, case, "copied")?;
-    Ok(write!(told, "{later}{copied}")?)
+    let later = answers(alloc, &mut environment, case, "later")?;
+    let copied = answers(alloc, &mut copy, case, "copied")?;
+    Ok(format!(in alloc; "{called}{later}{copied}")?)
 }
 
 /// What each call of the key's list answers, a line each.

@@ -6,40 +6,23 @@ use pymark_expected::{Fault, marker_fault, requirement_fault, set_fault, specifi
 use std::alloc::{AllocError, Global};
 use toml::Table;
 
-/// What was expected of `requirement`, with the text and its stretch below.
-pub(crate) fn of_requirement(alloc: Global, case: &Table) -> anyhow::Result<String> {
-    let text = text(alloc, case, "requirement")?;
-    let fault = requirement_fault(alloc, text.as_str())?;
-    Ok(shown(alloc, text.as_str(), fault)?)
-}
-
-/// The same of `marker`.
-pub(crate) fn of_marker(alloc: Global, case: &Table) -> anyhow::Result<String> {
-    let text = text(alloc, case, "marker")?;
-    let fault = marker_fault(alloc, text.as_str())?;
-    Ok(shown(alloc, text.as_str(), fault)?)
-}
-
-/// The same of the specifier set `set`.
-pub(crate) fn of_set(alloc: Global, case: &Table) -> anyhow::Result<String> {
-    let text = text(alloc, case, "set")?;
-    let fault = set_fault(alloc, text.as_str())?;
-    Ok(shown(alloc, text.as_str(), fault)?)
-}
-
-/// The same of `specifier`.
-pub(crate) fn of_specifier(alloc: Global, case: &Table) -> anyhow::Result<String> {
-    let text = text(alloc, case, "specifier")?;
-    let fault = specifier_fault(alloc, text.as_str())?;
-    Ok(shown(alloc, text.as_str(), fault)?)
-}
-
-/// The sentence, and the lines that point at the place.
-fn shown(alloc: Global, text: &str, fault: Option<Fault>) -> Result<String, AllocError> {
-    let Some(fault) = fault else {
-        return String::from_str(alloc, "taken");
+/// What was expected of the text of the key, and the lines that point at the place.
+pub(crate) fn point(alloc: Global, case: &Table, key: &str) -> anyhow::Result<String> {
+    let text = text(alloc, case, key)?;
+    let Some(fault) = fault_of(alloc, key, text.as_str())? else {
+        return Ok(String::from_str(alloc, "taken")?);
     };
-    let lines = pointed_lines(alloc, text, &fault)?;
+    let lines = pointed_lines(alloc, text.as_str(), &fault)?;
     let sentence = fault.expected;
-    format!(in alloc; "{sentence}\n{lines}")
+    Ok(format!(in alloc; "{sentence}\n{lines}")?)
+}
+
+/// The fault of the text, read as what the key names.
+fn fault_of(alloc: Global, key: &str, text: &str) -> Result<Option<Fault>, AllocError> {
+    match key {
+        "marker" => marker_fault(alloc, text),
+        "requirement" => requirement_fault(alloc, text),
+        "set" => set_fault(alloc, text),
+        _ => specifier_fault(alloc, text),
+    }
 }

@@ -17,7 +17,10 @@ mod told;
 mod versions;
 mod wheels;
 
+use crate::told::{compare, printed_text, tell};
 use case_files::{Answers, print_files};
+use pymark_core::Marker;
+use pyver_core::{Specifier, SpecifierSet, Version};
 use std::alloc::Global;
 use std::env;
 use toml::Table;
@@ -30,14 +33,14 @@ impl Answers for Cases {
         match kind {
             "admission" => sets::admit_alone(alloc, case),
             "choice" => wheels::pick(alloc, case),
-            "clause" => sets::read(alloc, case),
+            "clause" => tell(alloc, case, "text", Specifier::parse, printed_text),
             "different" => versions::count(alloc, case),
             "environment" => environments::answer_case(alloc, case),
-            "equality" => sets::compare(alloc, case),
-            "expected_marker" => expected::of_marker(alloc, case),
-            "expected_requirement" => expected::of_requirement(alloc, case),
-            "expected_set" => expected::of_set(alloc, case),
-            "expected_specifier" => expected::of_specifier(alloc, case),
+            "equality" => compare(alloc, case, SpecifierSet::parse, SpecifierSet::eq),
+            "expected_marker" => expected::point(alloc, case, "marker"),
+            "expected_requirement" => expected::point(alloc, case, "requirement"),
+            "expected_set" => expected::point(alloc, case, "set"),
+            "expected_specifier" => expected::point(alloc, case, "specifier"),
             "from_parts" => versions::make_version(alloc, case),
             "front" => sets::cut(alloc, case),
             "items" => sets::tell_items(alloc, case),
@@ -50,7 +53,7 @@ impl Answers for Cases {
             "long_version" => versions::measure(alloc, case),
             "long_wheel" => wheels::measure(alloc, case),
             "marker" => markers::judge(alloc, case),
-            "markers" => markers::judge_all(alloc, case),
+            "markers" | "with_extra" => markers::judge_all(alloc, case),
             "match" => sets::admit(alloc, case),
             "name" => names::answer_case(alloc, case),
             "order" => versions::compare(alloc, case),
@@ -61,9 +64,9 @@ impl Answers for Cases {
             "requirement_text" => requirements::print(alloc, case),
             "same_name" => names::compare(alloc, case),
             "sdist" => sdists::answer_case(alloc, case),
-            "set" => sets::answer_case(alloc, case),
-            "seen_marker" => markers::look(alloc, case),
-            "seen_set" => sets::look(alloc, case),
+            "set" => tell(alloc, case, "set", SpecifierSet::parse, printed_text),
+            "seen_marker" => compare(alloc, case, Marker::parse, Marker::is_seen_same),
+            "seen_set" => compare(alloc, case, SpecifierSet::parse, SpecifierSet::is_seen_same),
             "specifier" => sets::make_specifier(alloc, case),
             "still_environment" => still::ask(alloc, case),
             "still_marker" => still::judge(alloc, case),
@@ -74,10 +77,9 @@ impl Answers for Cases {
             "tags" => tags::tell_list(alloc, case),
             "target" => targets::answer_case(alloc, case),
             "variable" => environments::tell_variable(alloc, case),
-            "version" => versions::answer_case(alloc, case),
+            "version" => tell(alloc, case, "version", Version::parse, printed_text),
             "wheel" => wheels::answer_case(alloc, case),
             "wheel_text" => wheels::print(alloc, case),
-            "with_extra" => markers::judge_with_extra(alloc, case),
             _ => Err(anyhow::anyhow!("no kind of case")),
         }
     }

@@ -51,6 +51,6 @@ pub(crate) fn compare(alloc: Global, case: &Table) -> anyhow::Result<String> {
 pub(crate) fn measure(alloc: Global, case: &Table) -> anyhow::Result<String> {
     let text = text(alloc, case, "text")?;
     let normal = normal_name(alloc, text.as_str())?;
-    let measured = measure_text(alloc, case, normal.as_str(), text.as_str())?;
+    let measured = measure_text(alloc, case, "text", normal.as_str())?;
     Ok(format!(in alloc; "{}, {measured}", is_name(text.as_str()))?)
 }

@@ -5,7 +5,7 @@
 use crate::environments::change_variable;
 use crate::markers::evaluate;
 use crate::still::times;
-use crate::tags::tag_texts;
+use crate::tags::tag_list;
 use case_files::text;
 use pymark_core::{Environment, Requirement};
 use pyver_core::{SpecifierSet, Version};
@@ -77,13 +77,6 @@ fn read_line(alloc: Global, pages: &mut Pages, word: &str, text: &str) -> anyhow
 fn read_tags(alloc: Global, pages: &mut Pages, text: &str) -> anyhow::Result<()> {
     pages.tags = tag_list(alloc, text)?;
     Ok(())
-}
-
-fn tag_list(alloc: Global, text: &str) -> anyhow::Result<TagList> {
-    match TagList::parse(alloc, &tag_texts(alloc, text)?) {
-        Ok(tags) => Ok(tags),
-        Err(refusal) => Err(anyhow::anyhow!("the tags are refused: {refusal:?}")),
-    }
 }
 
 fn read_wheel(alloc: Global, pages: &mut Pages, text: &str) -> anyhow::Result<()> {

@@ -1,48 +1,27 @@
 //! Requirements.
 
-use crate::told::{printed_text, refused};
-use case_files::text;
+use crate::told::{printed_text, read, tell, with_copy};
 use pymark_core::{Marker, Requirement};
 use std::alloc::{AllocError, Global};
 use toml::Table;
 
 /// The parts of `requirement`, with those of its copy where they are others; or why it is refused.
 pub(crate) fn answer_case(alloc: Global, case: &Table) -> anyhow::Result<String> {
-    let text = text(alloc, case, "requirement")?;
-    match Requirement::parse(alloc, text.as_str()) {
-        Ok(requirement) => Ok(parts_or_copy(alloc, &requirement)?),
-        Err(refusal) => refused(alloc, &refusal),
-    }
+    let parse = Requirement::parse;
+    tell(alloc, case, "requirement", parse, |alloc, requirement| {
+        with_copy(alloc, requirement, parts)
+    })
 }
 
 /// What is printed of `requirement`, and of that text where it is another.
 pub(crate) fn print(alloc: Global, case: &Table) -> anyhow::Result<String> {
-    let text = text(alloc, case, "requirement")?;
-    let printed = text_of(alloc, text.as_str())?;
-    let again = text_of(alloc, printed.as_str())?;
+    let requirement = read(alloc, case, "requirement", Requirement::parse)?;
+    let printed = printed_text(alloc, &requirement)?;
+    let again = printed_text(alloc, &Requirement::parse(alloc, printed.as_str())?)?;
     if again.as_str() == printed.as_str() {
         return Ok(printed);
     }
     Ok(format!(in alloc; "{printed}, but of that {again}")?)
-}
-
-fn text_of(alloc: Global, text: &str) -> anyhow::Result<String> {
-    let requirement = Requirement::parse(alloc, text)?;
-    Ok(printed_text(alloc, &requirement)?)
-}
-
-fn parts_or_copy(alloc: Global, requirement: &Requirement) -> Result<String, AllocError> {
-    let parts = parts(alloc, requirement)?;
-    let copied = parts_of_copy(alloc, requirement)?;
-    if copied.as_str() == parts.as_str() {
-        return Ok(parts);
-    }
-    format!(in alloc; "{parts}but its copy {copied}")
-}
-
-fn parts_of_copy(alloc: Global, requirement: &Requirement) -> Result<String, AllocError> {
-    let copy = requirement.clone()?;
-    parts(alloc, &copy)
 }
 
 fn parts(alloc: Global, requirement: &Requirement) -> Result<String, AllocError> {

@@ -1,7 +1,6 @@
 //! The names of source distributions.
 
-use crate::told::refused;
-use case_files::text;
+use crate::told::tell;
 use pywheel_core::SdistName;
 use std::alloc::Global;
 use toml::Table;
@@ -9,22 +8,16 @@ use toml::Table;
 /// What the name `sdist` says: the name and the version, and how it prints for a developer; or why
 /// it is refused.
 pub(crate) fn answer_case(alloc: Global, case: &Table) -> anyhow::Result<String> {
-    let text = text(alloc, case, "sdist")?;
-    match SdistName::parse(alloc, text.as_str()) {
-        Ok(sdist) => Ok(format!(in alloc; "{}, {}, {sdist:?}", sdist.name(), sdist.version())?),
-        Err(refusal) => refused(alloc, &refusal),
-    }
+    tell(alloc, case, "sdist", SdistName::parse, |alloc, sdist| {
+        Ok(format!(in alloc; "{}, {}, {sdist:?}", sdist.name(), sdist.version())?)
+    })
 }
 
 /// The lengths of the name and of the version that the long name `sdist` says; or why it is
 /// refused.
 pub(crate) fn measure(alloc: Global, case: &Table) -> anyhow::Result<String> {
-    let text = text(alloc, case, "sdist")?;
-    match SdistName::parse(alloc, text.as_str()) {
-        Ok(sdist) => {
-            let (name, version) = (sdist.name().len(), sdist.version().text().len());
-            Ok(format!(in alloc; "name {name} bytes, version {version} bytes")?)
-        }
-        Err(refusal) => refused(alloc, &refusal),
-    }
+    tell(alloc, case, "sdist", SdistName::parse, |alloc, sdist| {
+        let (name, version) = (sdist.name().len(), sdist.version().text().len());
+        Ok(format!(in alloc; "name {name} bytes, version {version} bytes")?)
+    })
 }

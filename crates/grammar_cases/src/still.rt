@@ -2,15 +2,16 @@
 //! and a case tells whether both always answer alike. `tools/check/allocations/run` compares the
 //! allocations of a run that makes the calls once with those of one that makes them nine times.
 
-use crate::environments::{set_all, version};
-use crate::markers::evaluate;
-use crate::tags::tag_texts;
+use crate::environments::{environment_of, version};
+use crate::markers::{evaluate, extra_of};
+use crate::tags::tag_list;
+use crate::told::read;
 use crate::wheels::wheels;
-use case_files::{text, texts};
+use case_files::text;
 use pymark_core::{Environment, Marker, Var};
 use pyver_core::{NormalForm, SpecifierSet, Version, is_name, is_same_name};
 use pywheel_core::{TagList, WheelName, choose};
-use std::alloc::{AllocError, Global};
+use std::alloc::Global;
 use toml::{Table, Value};
 
 /// How often the calls are made.
@@ -21,34 +22,36 @@ pub(crate) fn times(case: &Table) -> i64 {
     }
 }
 
-/// The parts of `version`, its order after `older`, and what `set` admits of the two.
-pub(crate) fn compare(alloc: Global, case: &Table) -> anyhow::Result<String> {
-    let (set, older) = (text(alloc, case, "set")?, text(alloc, case, "older")?);
-    let version = text(alloc, case, "version")?;
-    let set = SpecifierSet::parse(alloc, set.as_str())?;
-    let older = Version::parse(alloc, older.as_str())?;
-    let version = Version::parse(alloc, version.as_str())?;
-    compare_versions(alloc, case, &set, &older, &version)
-}
-
-fn compare_versions(
+/// Whether all calls answer alike, which `are_alike` makes once.
+fn tell_always<F: Fn() -> anyhow::Result<bool> + Copy>(
     alloc: Global,
     case: &Table,
-    set: &SpecifierSet,
-    older: &Version,
-    version: &Version,
-) -> anyhow::Result<String> {
-    let (copied_set, copy) = (set.clone()?, version.clone()?);
-    let mut is_alike = true;
+    are_alike: F,
+) -> anyhow::Result<String>
+    requires { F.IsAlwaysCallable are_alike }
+{
+    let mut always = true;
     for _ in 0..times(case) {
-        is_alike = is_alike
-            && are_parts_alike(version, &copy)
-            && admits_second(set, older, &copy)
-            && admits_second(&copied_set, older, version)
-            && set.is_seen_same(&copied_set) == copied_set.is_seen_same(set)
-            && admits_by_nothing(alloc, version);
+        always = always && are_alike()?;
     }
-    Ok(is_alike.to_string(alloc)?)
+    Ok(always.to_string(alloc)?)
+}
+
+/// The parts of `version`, its order after `older`, and what `set` admits of the two.
+pub(crate) fn compare(alloc: Global, case: &Table) -> anyhow::Result<String> {
+    let set = read(alloc, case, "set", SpecifierSet::parse)?;
+    let older = read(alloc, case, "older", Version::parse)?;
+    let version = read(alloc, case, "version", Version::parse)?;
+    let (copied_set, copy) = (set.clone()?, version.clone()?);
+    tell_always(alloc, case, || {
+        Ok(
+            are_parts_alike(&version, &copy)
+                && admits_second(&set, &older, &copy)
+                && admits_second(&copied_set, &older, &version)
+                && set.is_seen_same(&copied_set) == copied_set.is_seen_same(&set)
+                && admits_by_nothing(alloc, &version),
+        )
+    })
 }
 
 fn are_parts_alike(version: &Version, copy: &Version) -> bool {
@@ -85,39 +88,20 @@ fn admits_by_nothing(alloc: Global, version: &Version) -> bool {
 pub(crate) fn lend(alloc: Global, case: &Table) -> anyhow::Result<String> {
     let text = text(alloc, case, "text")?;
     let text = text.as_str();
-    let mut is_alike = true;
-    for _ in 0..times(case) {
+    tell_always(alloc, case, || {
         let form = NormalForm::of(alloc, text)?;
-        is_alike = is_alike && is_name(text) && is_same_name(form.as_str(), text);
-    }
-    Ok(is_alike.to_string(alloc)?)
+        Ok(is_name(text) && is_same_name(form.as_str(), text))
+    })
 }
 
 /// The value of `marker`, which is true, its text and what it reads; where the case has a text
 /// `extra`, that is the operand `extra`.
 pub(crate) fn judge(alloc: Global, case: &Table) -> anyhow::Result<String> {
-    let marker = text(alloc, case, "marker")?;
-    let marker = Marker::parse(alloc, marker.as_str())?;
-    let mut environment = Environment::new(alloc);
-    set_all(&mut environment, alloc, case)?;
-    judge_marker(alloc, case, &marker, &environment)
-}
-
-fn judge_marker(
-    alloc: Global,
-    case: &Table,
-    marker: &Marker,
-    environment: &Environment,
-) -> anyhow::Result<String> {
-    let extra = match case.get("extra") {
-        Some(Value::String(extra)) => Some(extra.as_str()),
-        _ => None,
-    };
-    let mut is_alike = true;
-    for _ in 0..times(case) {
-        is_alike = is_alike && is_judged_alike(alloc, marker, environment, extra)?;
-    }
-    Ok(is_alike.to_string(alloc)?)
+    let marker = read(alloc, case, "marker", Marker::parse)?;
+    let environment = environment_of(alloc, case)?;
+    tell_always(alloc, case, || {
+        is_judged_alike(alloc, &marker, &environment, extra_of(case))
+    })
 }
 
 /// The copies of the marker and of the environment take no memory either.
@@ -140,16 +124,11 @@ fn is_judged_alike(
 /// What an environment says of `python_version`, of an extra and of a group, and what its copy says
 /// once the variable has no text and nothing is asked for. The copy takes no memory either.
 pub(crate) fn ask(alloc: Global, case: &Table) -> anyhow::Result<String> {
-    let mut environment = Environment::new(alloc);
-    set_all(&mut environment, alloc, case)?;
-    let mut is_alike = true;
-    for _ in 0..times(case) {
-        is_alike = is_alike && is_copied_alike(&environment)?;
-    }
-    Ok(is_alike.to_string(alloc)?)
+    let environment = environment_of(alloc, case)?;
+    tell_always(alloc, case, || is_copied_alike(&environment))
 }
 
-fn is_copied_alike(environment: &Environment) -> Result<bool, AllocError> {
+fn is_copied_alike(environment: &Environment) -> anyhow::Result<bool> {
     let mut copy = environment.copy()?;
     let is_alike = says_what_is_set(environment) && says_what_is_set(&copy);
     copy.unset(Var::PythonVersion);
@@ -173,41 +152,16 @@ fn says_nothing(environment: &Environment) -> bool {
 
 /// What the names `wheels` and the list `tags` say, and the choice of a wheel, which is told.
 pub(crate) fn pick(alloc: Global, case: &Table) -> anyhow::Result<String> {
-    let tags = text(alloc, case, "tags")?;
-    let tags = tag_texts(alloc, tags.as_str())?;
-    let names = texts(alloc, case, "wheels")?;
-    let wheels = wheels(alloc, &names)?;
-    let copies = wheels.clone()?;
-    pick_wheels(alloc, case, &tags, [&wheels, &copies])
-}
-
-fn pick_wheels(
-    alloc: Global,
-    case: &Table,
-    tags: &[&str],
-    wheels: [&[Option<WheelName>]; 2],
-) -> anyhow::Result<String> {
-    match TagList::parse(alloc, tags) {
-        Ok(tags) => pick_by(alloc, case, &tags, wheels),
-        Err(refusal) => Err(anyhow::anyhow!("the tags are refused: {refusal:?}")),
-    }
-}
-
-fn pick_by(
-    alloc: Global,
-    case: &Table,
-    tags: &TagList,
-    wheels: [&[Option<WheelName>]; 2],
-) -> anyhow::Result<String> {
-    let copy = tags.clone()?;
-    let [wheels, copies] = wheels;
-    let mut is_alike = true;
-    for _ in 0..times(case) {
-        is_alike = is_alike
-            && choose(wheels, tags) == choose(copies, &copy)
-            && are_wheels_alike(wheels, copies, [tags, &copy]);
-    }
-    Ok(format!(in alloc; "{is_alike}, {:?}", choose(wheels, tags))?)
+    let wheels = wheels(alloc, case)?;
+    let tags = tag_list(alloc, text(alloc, case, "tags")?.as_str())?;
+    let (copies, copy) = (wheels.clone()?, tags.clone()?);
+    let always = tell_always(alloc, case, || {
+        Ok(
+            choose(&wheels, &tags) == choose(&copies, &copy)
+                && are_wheels_alike(&wheels, &copies, [&tags, &copy]),
+        )
+    })?;
+    Ok(format!(in alloc; "{always}, {:?}", choose(&wheels, &tags))?)
 }
 
 fn are_wheels_alike(

@@ -10,20 +10,16 @@ use toml::Table;
 pub(crate) fn answer_case(alloc: Global, case: &Table) -> anyhow::Result<String> {
     let text = text(alloc, case, "tag")?;
     match Tag::parse(alloc, text.as_str()) {
-        Ok(tag) => Ok(parts(alloc, &tag)?),
+        Ok(tag) => parts(alloc, &tag),
         Err(TagError::Memory) => Err(anyhow::anyhow!("memory")),
         Err(refusal) => Ok(format!(in alloc; "{refusal:?}")?),
     }
 }
 
-fn parts(alloc: Global, tag: &Tag) -> Result<String, AllocError> {
+fn parts(alloc: Global, tag: &Tag) -> anyhow::Result<String> {
     let text = printed_text(alloc, tag)?;
-    format!(in alloc;
-        "{text}: {}, {}, {}",
-        tag.python(),
-        tag.abi(),
-        tag.platform()
-    )
+    let (python, abi, platform) = (tag.python(), tag.abi(), tag.platform());
+    Ok(format!(in alloc; "{text}: {python}, {abi}, {platform}")?)
 }
 
 /// How many tags the list of `tags` has, or why it is refused; and the rank of each of `ranks`, or
@@ -31,16 +27,23 @@ fn parts(alloc: Global, tag: &Tag) -> Result<String, AllocError> {
 pub(crate) fn tell_list(alloc: Global, case: &Table) -> anyhow::Result<String> {
     let text = text(alloc, case, "tags")?;
     let ranks = texts(alloc, case, "ranks")?;
-    let tags = tag_texts(alloc, text.as_str())?;
-    match TagList::parse(alloc, &tags) {
+    match TagList::parse(alloc, &tag_texts(alloc, text.as_str())?) {
         Ok(tags) => ranks_text(alloc, &tags, &ranks),
         Err(TagListError::Memory) => Err(anyhow::anyhow!("memory")),
         Err(refusal) => Ok(format!(in alloc; "{refusal:?}")?),
     }
 }
 
+/// The list of the tags between the spaces of a text.
+pub(crate) fn tag_list(alloc: Global, text: &str) -> anyhow::Result<TagList> {
+    match TagList::parse(alloc, &tag_texts(alloc, text)?) {
+        Ok(tags) => Ok(tags),
+        Err(refusal) => Err(anyhow::anyhow!("the tags are refused: {refusal:?}")),
+    }
+}
+
 /// The texts between the spaces of a text; none where it is empty.
-pub(crate) fn tag_texts(alloc: Global, text: &str) -> Result<Vec<&str>, AllocError> {
+fn tag_texts(alloc: Global, text: &str) -> Result<Vec<&str>, AllocError> {
     if text.is_empty() {
         return Ok(Vec::new(alloc));
     }
@@ -52,9 +55,7 @@ fn ranks_text(alloc: Global, tags: &TagList, ranks: &[&str]) -> anyhow::Result<S
     if ranks.is_empty() {
         push_tags(&mut told, tags.clone()?.tags())?;
     }
-    for text in ranks {
-        push_rank(&mut told, alloc, tags, text)?;
-    }
+    push_ranks(&mut told, alloc, tags, ranks)?;
     Ok(told)
 }
 
@@ -65,27 +66,29 @@ fn push_tags(told: &mut String, tags: &[Tag]) -> Result<(), AllocError> {
     Ok(())
 }
 
-/// The rank of a tag in the list, with that of its copy in a copy of the list where it is another.
-pub(crate) fn push_rank(
+/// The rank of each tag in the list, with that of its copy in a copy of the list where it is
+/// another.
+pub(crate) fn push_ranks(
     told: &mut String,
     alloc: Global,
     tags: &TagList,
-    text: &str,
+    texts: &[&str],
 ) -> anyhow::Result<()> {
-    let tag = match Tag::parse(alloc, text) {
-        Ok(tag) => tag,
-        Err(refusal) => return Err(anyhow::anyhow!("the tag is refused: {refusal:?}")),
-    };
-    let rank = tags.rank(&tag);
-    writeln!(told, "{tag} {rank:?}")?;
-    let copied = rank_of_copy(tags, &tag)?;
-    if copied != rank {
-        writeln!(told, "{copied:?} in the copy")?;
+    for text in texts {
+        match Tag::parse(alloc, text) {
+            Ok(tag) => push_rank(told, tags, &tag)?,
+            Err(refusal) => return Err(anyhow::anyhow!("the tag is refused: {refusal:?}")),
+        }
     }
     Ok(())
 }
 
-fn rank_of_copy(tags: &TagList, tag: &Tag) -> Result<Option<usize>, AllocError> {
-    let copy = tags.clone()?;
-    Ok(copy.rank(&tag.clone()?))
+fn push_rank(told: &mut String, tags: &TagList, tag: &Tag) -> Result<(), AllocError> {
+    let rank = tags.rank(tag);
+    writeln!(told, "{tag} {rank:?}")?;
+    let copied = tags.clone()?.rank(&tag.clone()?);
+    if copied != rank {
+        writeln!(told, "{copied:?} in the copy")?;
+    }
+    Ok(())
 }

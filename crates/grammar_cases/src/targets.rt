@@ -1,6 +1,6 @@
 //! Targets, and the tags that they take.
 
-use crate::tags::push_rank;
+use crate::tags::push_ranks;
 use crate::told::refused;
 use case_files::{text, texts};
 use pywheel_core::{TagList, Target};
@@ -22,9 +22,7 @@ fn target_text(alloc: Global, target: &Target, ranks: &[&str]) -> anyhow::Result
     let mut told = machine_text(alloc, target)?;
     let tags = TagList::of_target(alloc, target)?;
     push_ends(&mut told, &tags)?;
-    for text in ranks {
-        push_rank(&mut told, alloc, &tags, text)?;
-    }
+    push_ranks(&mut told, alloc, &tags, ranks)?;
     Ok(told)
 }
 

@@ -1,6 +1,6 @@
 //! Versions: their texts, their parts, versions of parts, and their order.
 
-use crate::told::{measure_text, printed_text, refused, value_or_refusal};
+use crate::told::{measure_text, printed_text, read, refused, tell};
 use case_files::{text, texts};
 use pytext::Text;
 use pyver_core::{LocalPart, Version, VersionParts};
@@ -9,16 +9,9 @@ use std::cmp::Ordering;
 use std::collections::HashSet;
 use toml::Table;
 
-/// The normal text of `version`, or why it is refused.
-pub(crate) fn answer_case(alloc: Global, case: &Table) -> anyhow::Result<String> {
-    let text = text(alloc, case, "version")?;
-    value_or_refusal(alloc, Version::parse(alloc, text.as_str()))
-}
-
 /// The parts of `version`, its text, and what is left of it as a public version and as a release.
 pub(crate) fn tell_parts(alloc: Global, case: &Table) -> anyhow::Result<String> {
-    let text = text(alloc, case, "version")?;
-    let version = Version::parse(alloc, text.as_str())?;
+    let version = read(alloc, case, "version", Version::parse)?;
     Ok(parts(alloc, &version)?)
 }
 
@@ -50,21 +43,14 @@ fn push_shorter(parts: &mut String, alloc: Global, version: &Version) -> Result<
 /// How many numbers and segments the long `version` has, whether its text is read as the version
 /// again, and what is to be seen of the text; or why it is refused.
 pub(crate) fn measure(alloc: Global, case: &Table) -> anyhow::Result<String> {
-    let text = text(alloc, case, "version")?;
-    match Version::parse(alloc, text.as_str()) {
-        Ok(version) => measure_version(alloc, case, &version, text.as_str()),
-        Err(refusal) => refused(alloc, &refusal),
-    }
+    tell(alloc, case, "version", Version::parse, |alloc, version| {
+        measure_version(alloc, case, version)
+    })
 }
 
-fn measure_version(
-    alloc: Global,
-    case: &Table,
-    version: &Version,
-    given: &str,
-) -> anyhow::Result<String> {
+fn measure_version(alloc: Global, case: &Table, version: &Version) -> anyhow::Result<String> {
     let printed = printed_text(alloc, version)?;
-    let measured = measure_text(alloc, case, printed.as_str(), given)?;
+    let measured = measure_text(alloc, case, "version", printed.as_str())?;
     let is_read = is_read_back(alloc, version, printed.as_str())?;
     let (numbers, segments) = (version.release().len(), version.local().len());
     Ok(format!(in alloc;
@@ -82,20 +68,10 @@ fn is_read_back(alloc: Global, version: &Version, printed: &str) -> anyhow::Resu
 /// the text `label` before the other segments of the local part, and without a number in the
 /// release, where the case says so. Or why no version has them.
 pub(crate) fn make_version(alloc: Global, case: &Table) -> anyhow::Result<String> {
-    let text = text(alloc, case, "version")?;
-    let version = Version::parse(alloc, text.as_str())?;
+    let version = read(alloc, case, "version", Version::parse)?;
     let parts = parts_of(alloc, case, &version)?;
-    version_text(alloc, case, &parts, text.as_str())
-}
-
-fn version_text(
-    alloc: Global,
-    case: &Table,
-    parts: &VersionParts,
-    given: &str,
-) -> anyhow::Result<String> {
     match Version::from_parts(alloc, parts.clone()?) {
-        Ok(version) => measure_version(alloc, case, &version, given),
+        Ok(version) => measure_version(alloc, case, &version),
         Err(refusal) => refused(alloc, &refusal),
     }
 }
@@ -159,12 +135,8 @@ pub(crate) fn compare(alloc: Global, case: &Table) -> anyhow::Result<String> {
 fn sign_between(alloc: Global, left: &str, right: &str) -> anyhow::Result<&'static str> {
     let left = Version::parse(alloc, left)?;
     let right = Version::parse(alloc, right)?;
-    let keys = compare_keys(alloc, &left, &right)?;
+    let keys = left.order_key(alloc)?.cmp(&right.order_key(alloc)?);
     Ok(sign(&left, &right, keys))
-}
-
-fn compare_keys(alloc: Global, left: &Version, right: &Version) -> Result<Ordering, AllocError> {
-    Ok(left.order_key(alloc)?.cmp(&right.order_key(alloc)?))
 }
 
 /// What each of the comparisons says, and that of the order keys.
@@ -185,12 +157,7 @@ fn sign(left: &Version, right: &Version, keys: Ordering) -> &'static str {
 
 /// The bytes of the order key of `version`.
 pub(crate) fn tell_key(alloc: Global, case: &Table) -> anyhow::Result<String> {
-    let text = text(alloc, case, "version")?;
-    let version = Version::parse(alloc, text.as_str())?;
-    Ok(key_text(alloc, &version)?)
-}
-
-fn key_text(alloc: Global, version: &Version) -> Result<String, AllocError> {
+    let version = read(alloc, case, "version", Version::parse)?;
     let key = version.order_key(alloc)?;
-    format!(in alloc; "{key:?}")
+    Ok(format!(in alloc; "{key:?}")?)
 }

@@ -1,23 +1,19 @@
 //! The names of wheels, and the choice of a wheel.
 
-use crate::tags::tag_texts;
-use crate::told::{measure_text, printed_text, refused};
+use crate::tags::tag_list;
+use crate::told::{measure_text, printed_text, tell, with_copy};
 use case_files::{text, texts};
-use pywheel_core::{Tag, TagList, WheelName, choose};
+use pywheel_core::{Tag, WheelName, choose};
 use std::alloc::{AllocError, Global};
 use toml::Table;
 
 /// What the name `wheel` says: the name, the version, the build tag and the tags; or why it is
 /// refused.
 pub(crate) fn answer_case(alloc: Global, case: &Table) -> anyhow::Result<String> {
-    let text = text(alloc, case, "wheel")?;
-    match WheelName::parse(alloc, text.as_str()) {
-        Ok(wheel) => Ok(name_text(alloc, &wheel)?),
-        Err(refusal) => refused(alloc, &refusal),
-    }
+    tell(alloc, case, "wheel", WheelName::parse, name_text)
 }
 
-fn name_text(alloc: Global, wheel: &WheelName) -> Result<String, AllocError> {
+fn name_text(alloc: Global, wheel: &WheelName) -> anyhow::Result<String> {
     let (name, version, build) = (wheel.name(), wheel.version(), wheel.build());
     let mut said = format!(in alloc; "{name}, {version}, {:?}, {build:?},", wheel.build_text())?;
     push_tags(&mut said, wheel.tags())?;
@@ -33,47 +29,21 @@ fn push_tags(said: &mut String, tags: &[Tag]) -> Result<(), AllocError> {
 
 /// The text that the name `wheel` prints, its compressed tag set, and how many tags it has.
 pub(crate) fn print(alloc: Global, case: &Table) -> anyhow::Result<String> {
-    let text = text(alloc, case, "wheel")?;
-    match WheelName::parse(alloc, text.as_str()) {
-        Ok(wheel) => Ok(text_of(alloc, &wheel)?),
-        Err(refusal) => refused(alloc, &refusal),
-    }
-}
-
-fn text_of(alloc: Global, wheel: &WheelName) -> Result<String, AllocError> {
-    let text = printed_text(alloc, wheel)?;
-    format!(in alloc; "{text}\n{}\n{}", wheel.tag_set(), wheel.tags().len())
+    tell(alloc, case, "wheel", WheelName::parse, |alloc, wheel| {
+        let text = printed_text(alloc, wheel)?;
+        Ok(format!(in alloc; "{text}\n{}\n{}", wheel.tag_set(), wheel.tags().len())?)
+    })
 }
 
 /// The lengths of the parts of the long name `wheel`, those of its copy where they are others, and
 /// what is to be seen of its text; or why it is refused.
 pub(crate) fn measure(alloc: Global, case: &Table) -> anyhow::Result<String> {
-    let text = text(alloc, case, "wheel")?;
-    match WheelName::parse(alloc, text.as_str()) {
-        Ok(wheel) => measure_wheel(alloc, case, &wheel, text.as_str()),
-        Err(refusal) => refused(alloc, &refusal),
-    }
-}
-
-fn measure_wheel(
-    alloc: Global,
-    case: &Table,
-    wheel: &WheelName,
-    given: &str,
-) -> anyhow::Result<String> {
-    let printed = printed_text(alloc, wheel)?;
-    let measured = measure_text(alloc, case, printed.as_str(), given)?;
-    let lengths = lengths(alloc, wheel)?;
-    let copied = lengths_of_copy(alloc, wheel)?;
-    if copied.as_str() == lengths.as_str() {
-        return Ok(format!(in alloc; "{lengths}\n{measured}")?);
-    }
-    Ok(format!(in alloc; "{lengths}, but its copy {copied}\n{measured}")?)
-}
-
-fn lengths_of_copy(alloc: Global, wheel: &WheelName) -> Result<String, AllocError> {
-    let copy = wheel.clone()?;
-    lengths(alloc, &copy)
+    tell(alloc, case, "wheel", WheelName::parse, |alloc, wheel| {
+        let printed = printed_text(alloc, wheel)?;
+        let measured = measure_text(alloc, case, "wheel", printed.as_str())?;
+        let lengths = with_copy(alloc, wheel, lengths)?;
+        Ok(format!(in alloc; "{lengths}\n{measured}")?)
+    })
 }
 
 /// The lengths of the name, of the build tag and of the tags; and the build's number and rest.
@@ -87,16 +57,14 @@ fn lengths(alloc: Global, wheel: &WheelName) -> Result<String, AllocError> {
 /// The place of the best of `wheels` by `tags`, which are written with spaces between them. Where a
 /// wheel is an empty text, no name stands in its place.
 pub(crate) fn pick(alloc: Global, case: &Table) -> anyhow::Result<String> {
-    let tags = text(alloc, case, "tags")?;
-    let tags = tag_texts(alloc, tags.as_str())?;
-    let names = texts(alloc, case, "wheels")?;
-    let wheels = wheels(alloc, &names)?;
-    Ok(pick_position(alloc, &wheels, &tags)?)
+    let wheels = wheels(alloc, case)?;
+    let tags = tag_list(alloc, text(alloc, case, "tags")?.as_str())?;
+    Ok(format!(in alloc; "{:?}", choose(&wheels, &tags))?)
 }
 
-pub(crate) fn wheels(alloc: Global, names: &[&str]) -> anyhow::Result<Vec<Option<WheelName>>> {
+pub(crate) fn wheels(alloc: Global, case: &Table) -> anyhow::Result<Vec<Option<WheelName>>> {
     let mut wheels = Vec::new(alloc);
-    for name in names {
+    for name in texts(alloc, case, "wheels")? {
         if name.is_empty() {
             wheels.push(None)?;
         } else {
@@ -104,15 +72,4 @@ pub(crate) fn wheels(alloc: Global, names: &[&str]) -> anyhow::Result<Vec<Option
         }
     }
     Ok(wheels)
-}
-
-fn pick_position(
-    alloc: Global,
-    wheels: &[Option<WheelName>],
-    tags: &[&str],
-) -> anyhow::Result<String> {
-    match TagList::parse(alloc, tags) {
-        Ok(tags) => Ok(format!(in alloc; "{:?}", choose(wheels, &tags))?),
-        Err(refusal) => Err(anyhow::anyhow!("the tags are refused: {refusal:?}")),
-    }
 }

@@ -38,11 +38,9 @@ marker_never_memory text =
 -- ---- values
 
 operand_never_memory : (extra : Option (List ℕ)) (environment : EnvironmentValue) (o : Operand) → Never fault.Memory (operand_text extra environment o)
-operand_never_memory extra environment (Text text) = λ e. cc e
 operand_never_memory extra environment (Variable v) = never_or fault.Memory (fault.Unset v) (variable_in v environment) (λ e. cc e)
 operand_never_memory extra environment Extra = never_or fault.Memory fault.Extra extra (λ e. cc e)
-operand_never_memory extra environment Extras = λ e. cc e
-operand_never_memory extra environment Groups = λ e. cc e
+operand_never_memory extra environment o = λ e. cc e
 
 pub value_never_memory : (extra : Option (List ℕ)) (environment : EnvironmentValue) (t : Tree) → Never fault.Memory (value_with extra environment t)
 value_never_memory extra environment t = value_never fault.Memory extra environment (λ e. cc e) (λ e. cc e) (operand_never_memory extra environment) t

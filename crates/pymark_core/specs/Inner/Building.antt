@@ -44,22 +44,16 @@ state_view b stage = record {
 
 -- the atom behind which a stage is
 abbrev pub stage_atom : reading.Stage → Option Atom
-stage_atom at_atom = None
-stage_atom (at_operator left) = None
-stage_atom (at_in left) = None
-stage_atom (at_right left comparator) = None
 stage_atom (at_rest atom) = Some atom
+stage_atom stage = None
 
 -- the comparison that ends with this token
 abbrev pub comparison_ended_by : reading.Stage → token.Token → List ComparisonValue
-comparison_ended_by at_atom t = []
-comparison_ended_by (at_operator left) t = []
-comparison_ended_by (at_in left) t = []
 comparison_ended_by (at_right left comparator) t =
     option_to_list (option_map
     (λ right. record { left = left; comparator = comparator; right = right })
     (token_operand t))
-comparison_ended_by (at_rest atom) t = []
+comparison_ended_by stage t = []
 
 -- what was noted is what was noted before, and these comparisons
 pub record NotesGain (old new : Notes) (cs : List ComparisonValue) : Type 0 where

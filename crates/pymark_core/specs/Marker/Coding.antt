@@ -35,18 +35,8 @@ token_from_pair p =
     else quoted p.1
 
 pub token_round_trip : (t : Token) → token_from_pair (token_to_pair t) ≡ t
-token_round_trip opening = refl
-token_round_trip closing = refl
 token_round_trip (sign operator.Equal) = refl
-token_round_trip (sign operator.NotEqual) = refl
-token_round_trip (sign operator.AtMost) = refl
-token_round_trip (sign operator.AtLeast) = refl
-token_round_trip (sign operator.Before) = refl
-token_round_trip (sign operator.After) = refl
-token_round_trip (sign operator.Compatible) = refl
-token_round_trip (sign operator.Arbitrary) = refl
-token_round_trip (word letters) = refl
-token_round_trip (quoted text) = refl
+token_round_trip t = refl
 
 -- some tree, for lists of tokens that are none
 abbrev pub some_tree : Tree

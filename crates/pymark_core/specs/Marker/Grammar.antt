@@ -68,17 +68,14 @@ abbrev mutual
 
 -- `extras` and `dependency_groups`
 abbrev pub is_set : Operand → Bool
-is_set (Text text) = false
-is_set (Variable variable) = false
-is_set Extra = false
 is_set Extras = true
 is_set Groups = true
+is_set other = false
 
 -- not `in` or `not in`
 abbrev pub is_operator : Comparator → Bool
 is_operator (By operator) = true
-is_operator In = false
-is_operator NotIn = false
+is_operator other = false
 
 -- a set stands anywhere but right of `in` or `not in`
 abbrev pub is_misuse : ComparisonValue → Bool

@@ -32,11 +32,9 @@ word_operand letters =
     else option_map Variable (variable_of letters)
 
 unfoldable pub token_operand : Token → Option Operand
-token_operand opening = None
-token_operand closing = None
-token_operand (sign operator) = None
 token_operand (word letters) = word_operand letters
 token_operand (quoted text) = Some (Text text)
+token_operand token = None
 
 -- ---- what was read so far
 
@@ -83,23 +81,18 @@ frame_tree frame atom = tree_of frame.conjunctions (frame_conjunction frame atom
 
 -- the stage after the left operand and this token
 abbrev pub stage_after_left : Operand → Token → Option Stage
-stage_after_left left opening = None
-stage_after_left left closing = None
 stage_after_left left (sign operator) = Some (at_right left (By operator))
 stage_after_left left (word letters) =
     if bytes_eq (codes "in") letters then Some (at_right left In)
     else if bytes_eq (codes "not") letters then Some (at_in left)
     else None
-stage_after_left left (quoted text) = None
+stage_after_left left token = None
 
 -- the stage after the left operand, `not` and this token
 abbrev pub stage_after_not : Operand → Token → Option Stage
-stage_after_not left opening = None
-stage_after_not left closing = None
-stage_after_not left (sign operator) = None
 stage_after_not left (word letters) =
     if bytes_eq (codes "in") letters then Some (at_right left NotIn) else None
-stage_after_not left (quoted text) = None
+stage_after_not left token = None
 
 -- the stage after a comparison that this token ends
 abbrev pub stage_after_right : Operand → Comparator → Token → Option Stage
@@ -114,12 +107,9 @@ state_after_start outer inner opening =
     Some (record { outer = inner ∷ outer; inner = empty_frame; stage = at_atom })
 state_after_start outer inner closing = None
 state_after_start outer inner (sign operator) = None
-state_after_start outer inner (word letters) =
+state_after_start outer inner token =
     option_map (λ left. record { outer = outer; inner = inner; stage = at_operator left })
-    (token_operand (word letters))
-state_after_start outer inner (quoted text) =
-    option_map (λ left. record { outer = outer; inner = inner; stage = at_operator left })
-    (token_operand (quoted text))
+    (token_operand token)
 
 -- the state after `)`, which needs an open parenthesis
 abbrev pub state_after_closing : List Frame → Frame → Atom → Option ReaderState
@@ -129,9 +119,7 @@ state_after_closing (frame ∷ outer) inner atom =
 
 -- the state after an atom and this token
 abbrev pub state_after_atom : List Frame → Frame → Atom → Token → Option ReaderState
-state_after_atom outer inner atom opening = None
 state_after_atom outer inner atom closing = state_after_closing outer inner atom
-state_after_atom outer inner atom (sign operator) = None
 state_after_atom outer inner atom (word letters) =
     if bytes_eq (codes "and") letters then Some (record {
       outer = outer;
@@ -147,7 +135,7 @@ state_after_atom outer inner atom (word letters) =
       stage = at_atom;
     })
     else None
-state_after_atom outer inner atom (quoted text) = None
+state_after_atom outer inner atom token = None
 
 abbrev pub with_stage : List Frame → Frame → Option Stage → Option ReaderState
 with_stage outer inner stage =
@@ -171,11 +159,7 @@ next_state state token = next_state_at state.outer state.inner state.stage token
 -- the tree where the text ends here, or none
 abbrev pub tree_at_end : List Frame → Stage → Frame → Option Tree
 tree_at_end [] (at_rest atom) inner = Some (frame_tree inner atom)
-tree_at_end [] at_atom inner = None
-tree_at_end [] (at_operator left) inner = None
-tree_at_end [] (at_in left) inner = None
-tree_at_end [] (at_right left comparator) inner = None
-tree_at_end (frame ∷ outer) stage inner = None
+tree_at_end outer stage inner = None
 
 unfoldable pub final_tree : ReaderState → Option Tree
 final_tree state = tree_at_end state.outer state.stage state.inner

@@ -11,21 +11,11 @@ use Rattle.pymark_core.specs.Marker.Reading.{read_tokens, initial_state, next_st
 use Rattle.pymark_core.specs.Marker.Token.{Token, opening, closing, word}
 use Rattle.pymark_core.specs.Marker.Tree.{Tree, Conjunction, Atom, last, or, only, and, leaf, group}
 use Rattle.pymark_core.specs.Marker.Tree.{conjunction_of, tree_of}
-use Rattle.pymark_core.specs.Variables.{variable_name}
 use Rattle.pymark_core.specs.declared.operand.Comparator.{Comparator}
-use Rattle.pymark_core.specs.declared.operand.Comparator.TheVariants.{By, In, NotIn}
+use Rattle.pymark_core.specs.declared.operand.Comparator.TheVariants.{By}
 use Rattle.pymark_core.specs.declared.operand.Operand.{Operand}
-use Rattle.pymark_core.specs.declared.operand.Operand.TheVariants.{Text, Variable, Extra, Extras}
-use Rattle.pymark_core.specs.declared.operand.Operand.TheVariants.{Groups}
-use Rattle.pymark_core.specs.declared.variable.Var.{Var}
-use Rattle.pymark_core.specs.declared.variable.Var.TheVariants.{OsName, SysPlatform}
-use Rattle.pymark_core.specs.declared.variable.Var.TheVariants.{PlatformMachine}
-use Rattle.pymark_core.specs.declared.variable.Var.TheVariants.{PlatformPythonImplementation}
-use Rattle.pymark_core.specs.declared.variable.Var.TheVariants.{PlatformRelease, PlatformSystem}
-use Rattle.pymark_core.specs.declared.variable.Var.TheVariants.{PlatformVersion, PythonVersion}
-use Rattle.pymark_core.specs.declared.variable.Var.TheVariants.{PythonFullVersion}
-use Rattle.pymark_core.specs.declared.variable.Var.TheVariants.{ImplementationName}
-use Rattle.pymark_core.specs.declared.variable.Var.TheVariants.{ImplementationVersion}
+use Rattle.pymark_core.specs.declared.operand.Operand.TheVariants.{Text, Variable}
+use Rattle.pymark_core.specs.declared.variable.Var.TheVariants.{OsName}
 
 -- ---- the end of a tree, and what stands before it
 
@@ -57,27 +47,10 @@ tree_rejoined (or c others) = ap (or c) (tree_rejoined others)
 
 -- ---- single tokens
 
-variable_read_back : (v : Var) → token_operand (word (variable_name v)) ≡ Some (Variable v)
-unfolding token_operand
-variable_read_back OsName = refl
-variable_read_back SysPlatform = refl
-variable_read_back PlatformMachine = refl
-variable_read_back PlatformPythonImplementation = refl
-variable_read_back PlatformRelease = refl
-variable_read_back PlatformSystem = refl
-variable_read_back PlatformVersion = refl
-variable_read_back PythonVersion = refl
-variable_read_back PythonFullVersion = refl
-variable_read_back ImplementationName = refl
-variable_read_back ImplementationVersion = refl
-
 pub operand_read_back : (o : Operand) → token_operand (operand_token o) ≡ Some o
 unfolding token_operand
-operand_read_back (Text text) = refl
-operand_read_back (Variable v) = variable_read_back v
-operand_read_back Extra = refl
-operand_read_back Extras = refl
-operand_read_back Groups = refl
+operand_read_back (Variable OsName) = refl
+operand_read_back o = refl
 
 -- ---- comparisons
 
@@ -102,8 +75,7 @@ read_comparator : (outer : List Frame) (cs : List Conjunction) (xs : List Atom)
     ≡ read_tokens (state_at outer cs xs (at_right l o)) ts
 unfolding read_tokens next_state
 read_comparator outer cs xs l (By operator) ts = refl
-read_comparator outer cs xs l In ts = refl
-read_comparator outer cs xs l NotIn ts = refl
+read_comparator outer cs xs l o ts = refl
 
 read_left : (outer : List Frame) (cs : List Conjunction) (xs : List Atom)
     (l : Operand) (ts : List Token)
@@ -111,10 +83,7 @@ read_left : (outer : List Frame) (cs : List Conjunction) (xs : List Atom)
     ≡ read_tokens (state_at outer cs xs (at_operator l)) ts
 unfolding read_tokens next_state
 read_left outer cs xs (Text text) ts = rw (operand_read_back (Text text)) refl
-read_left outer cs xs (Variable v) ts = rw (operand_read_back (Variable v)) refl
-read_left outer cs xs Extra ts = rw (operand_read_back Extra) refl
-read_left outer cs xs Extras ts = rw (operand_read_back Extras) refl
-read_left outer cs xs Groups ts = rw (operand_read_back Groups) refl
+read_left outer cs xs o ts = rw (operand_read_back o) refl
 
 read_comparison : (outer : List Frame) (cs : List Conjunction) (xs : List Atom)
     (c : ComparisonValue) (ts : List Token)

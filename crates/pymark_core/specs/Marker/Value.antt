@@ -77,8 +77,7 @@ texts_value operator.AtMost x y = Ok (is_le (slice_cmp nat_cmp x y))
 texts_value operator.AtLeast x y = Ok (is_ge (slice_cmp nat_cmp x y))
 texts_value operator.Before x y = Ok (is_lt (slice_cmp nat_cmp x y))
 texts_value operator.After x y = Ok (is_gt (slice_cmp nat_cmp x y))
-texts_value operator.Compatible x y = Err fault.Undefined
-texts_value operator.Arbitrary x y = Err fault.Undefined
+texts_value other x y = Err fault.Undefined
 
 -- a version against a specifier, where both are there; else the value of the texts
 abbrev pub version_value : Option Parts → Option Specifier → Result Bool EvalFault

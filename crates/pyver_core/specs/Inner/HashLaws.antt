@@ -1,6 +1,6 @@
 -- Equal versions are hashed alike.
-use Rattle.std.proofs.Common.{◌≡◌, ℕ, ◌++◌, Option, Some, None, true, refl, sym, ap, ◌∙◌}
-use Rattle.std.proofs.Common.{arith}
+use Rattle.std.proofs.Common.{◌≡◌, ℕ, ◌==◌, ◌++◌, Option, Some, None, true, refl, sym, ap, ◌∙◌}
+use Rattle.std.proofs.Common.{if◌then◌else◌}
 use Rattle.std.specs.Cmp.{Equal-is}
 use Rattle.std.specs.FinMap.{IsAntisymmetric, nat_cmp-IsAntisymmetric, slice_cmp-IsAntisymmetric}
 use Rattle.std.specs.Hash as fed
@@ -20,66 +20,42 @@ use Rattle.pyver_core.specs.declared.version.part.PreKind.TheVariants.{A, B, Rc}
 
 -- what a tie of two comparisons in turn says of each
 then_first : (r s : Ordering) → ordering_then r s ≡ Equal → r ≡ Equal
-then_first Less s e = cc e
 then_first Equal s e = refl
-then_first Greater s e = cc e
+then_first r s e = cc e
 
 then_second : (r s : Ordering) → ordering_then r s ≡ Equal → s ≡ Equal
-then_second Less s e = cc e
 then_second Equal s e = e
-then_second Greater s e = cc e
-
-nat_cmp-tie : IsAntisymmetric nat_cmp
-nat_cmp-tie = nat_cmp-IsAntisymmetric
+then_second r s e = cc e
 
 option_cmp-tie : IsAntisymmetric (option_cmp nat_cmp)
 option_cmp-tie None None e = refl
-option_cmp-tie None (Some n) e = cc e
-option_cmp-tie (Some m) None e = cc e
-option_cmp-tie (Some m) (Some n) e = ap Some (nat_cmp-tie m n e)
+option_cmp-tie (Some m) (Some n) e = ap Some (nat_cmp-IsAntisymmetric m n e)
+option_cmp-tie a b e = cc e
 
 dev_cmp-tie : IsAntisymmetric dev_cmp
 dev_cmp-tie None None e = refl
-dev_cmp-tie None (Some n) e = cc e
-dev_cmp-tie (Some m) None e = cc e
-dev_cmp-tie (Some m) (Some n) e = ap Some (nat_cmp-tie m n e)
+dev_cmp-tie (Some m) (Some n) e = ap Some (nat_cmp-IsAntisymmetric m n e)
+dev_cmp-tie a b e = cc e
 
 segment_cmp-tie : IsAntisymmetric segment_cmp
-segment_cmp-tie (Number m) (Number n) e = ap Number (nat_cmp-tie m n e)
-segment_cmp-tie (Number m) (Text b) e = cc e
-segment_cmp-tie (Text a) (Number n) e = cc e
+segment_cmp-tie (Number m) (Number n) e = ap Number (nat_cmp-IsAntisymmetric m n e)
 segment_cmp-tie (Text a) (Text b) e =
     ap Text (slice_cmp-IsAntisymmetric nat_cmp-IsAntisymmetric a b e)
+segment_cmp-tie a b e = cc e
 
--- no pre-release ranks as one of the letters
-none-some : (letter : PreKind) (n : ℕ) (post dev : Option ℕ)
-    → phase_rank None post dev ≡ phase_rank (Some (letter, n)) post dev → ⊥
-none-some A n None None rank = omega arith
-none-some A n None (Some d) rank = omega arith
-none-some A n (Some k) dev rank = omega arith
-none-some B n None None rank = omega arith
-none-some B n None (Some d) rank = omega arith
-none-some B n (Some k) dev rank = omega arith
-none-some Rc n None None rank = omega arith
-none-some Rc n None (Some d) rank = omega arith
-none-some Rc n (Some k) dev rank = omega arith
+-- the pre-release that has this rank among the phases and this number
+abbrev pre_of : ℕ → ℕ → Option (PreKind × ℕ)
+pre_of rank n =
+    if rank == 1 then Some (A, n)
+    else if rank == 2 then Some (B, n)
+    else if rank == 3 then Some (Rc, n)
+    else None
 
--- the rank of the phase tells the letter, beside the post- and the developmental release
-phase-same : (p q : Option (PreKind × ℕ)) (post dev : Option ℕ)
-    → phase_rank p post dev ≡ phase_rank q post dev → phase_number p ≡ phase_number q → p ≡ q
-phase-same None None post dev rank number = refl
-phase-same None (Some (letter, n)) post dev rank number = absurd (none-some letter n post dev rank)
-phase-same (Some (letter, m)) None post dev rank number =
-    absurd (none-some letter m post dev (sym rank))
-phase-same (Some (A, m)) (Some (A, n)) post dev rank number = ap (λ (k : ℕ). Some (A, k)) number
-phase-same (Some (A, m)) (Some (B, n)) post dev rank number = absurd (omega arith)
-phase-same (Some (A, m)) (Some (Rc, n)) post dev rank number = absurd (omega arith)
-phase-same (Some (B, m)) (Some (A, n)) post dev rank number = absurd (omega arith)
-phase-same (Some (B, m)) (Some (B, n)) post dev rank number = ap (λ (k : ℕ). Some (B, k)) number
-phase-same (Some (B, m)) (Some (Rc, n)) post dev rank number = absurd (omega arith)
-phase-same (Some (Rc, m)) (Some (A, n)) post dev rank number = absurd (omega arith)
-phase-same (Some (Rc, m)) (Some (B, n)) post dev rank number = absurd (omega arith)
-phase-same (Some (Rc, m)) (Some (Rc, n)) post dev rank number = ap (λ (k : ℕ). Some (Rc, k)) number
+phase_read_back : (p : Option (PreKind × ℕ)) (post dev : Option ℕ)
+    → pre_of (phase_rank p post dev) (phase_number p) ≡ p
+phase_read_back None None (Some d) = refl
+phase_read_back (Some (A, n)) post dev = refl
+phase_read_back p post dev = refl
 
 -- equal versions have the same parts, but for zeros at the end of the release
 pub record IsSameButZeros (v w : Parts) : Type 0 where
@@ -101,16 +77,15 @@ version_cmp-Equal v w e =
     let e6 = then_second _ _ e5 in
     let post : v.post ≡ w.post = option_cmp-tie _ _ (then_first _ _ e4) in
     let dev : v.dev ≡ w.dev = dev_cmp-tie _ _ (then_first _ _ e5) in
-    let number : phase_number v.pre ≡ phase_number w.pre = nat_cmp-tie _ _ (then_first _ _ e3) in
+    let number : phase_number v.pre ≡ phase_number w.pre = nat_cmp-IsAntisymmetric _ _ (then_first _ _ e3) in
     let rank : phase_rank v.pre v.post v.dev ≡ phase_rank w.pre w.post w.dev =
-    nat_cmp-tie _ _ (then_first _ _ e2) in
-    let beside : phase_rank v.pre v.post v.dev ≡ phase_rank w.pre v.post v.dev =
-    rank ∙ (λ i. phase_rank w.pre (sym post i) (sym dev i)) in
+    nat_cmp-IsAntisymmetric _ _ (then_first _ _ e2) in
     let released = sym (release_cmp_without_zeros v.release w.release) ∙ then_first _ _ e1 in
     record {
-      epoch = nat_cmp-tie _ _ (then_first _ _ e);
+      epoch = nat_cmp-IsAntisymmetric _ _ (then_first _ _ e);
       release = slice_cmp-IsAntisymmetric nat_cmp-IsAntisymmetric _ _ released;
-      pre = phase-same v.pre w.pre v.post v.dev beside number;
+      pre = sym (phase_read_back v.pre v.post v.dev) ∙ (λ i. pre_of (rank i) (number i))
+          ∙ phase_read_back w.pre w.post w.dev;
       post = post;
       dev = dev;
       local = slice_cmp-IsAntisymmetric segment_cmp-tie _ _ (then_first _ _ e6);

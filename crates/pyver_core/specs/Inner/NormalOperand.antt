@@ -9,14 +9,9 @@ use Rattle.pyver_core.specs.declared.set.specifier.Specifier.TheVariants as spec
 -- how many numbers the release of a version has at least behind this operator, where a version
 -- stands there
 abbrev pub least_numbers : Operator → Option ℕ
-least_numbers operator.Equal = Some 1
-least_numbers operator.NotEqual = Some 1
-least_numbers operator.AtMost = Some 1
-least_numbers operator.AtLeast = Some 1
-least_numbers operator.Before = Some 1
-least_numbers operator.After = Some 1
 least_numbers operator.Compatible = Some 2
 least_numbers operator.Arbitrary = None
+least_numbers other = Some 1
 
 abbrev pub with_version : Operator → Parts → Option Specifier
 with_version operator.Equal v = Some (specifier.Equal v)

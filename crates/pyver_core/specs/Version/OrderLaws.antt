@@ -31,47 +31,37 @@ dev_rank None = 1
 dev_cmp-ranks : (a b : Option ℕ)
     → dev_cmp a b ≡ then_cmp (on dev_rank nat_cmp) (option_cmp nat_cmp) a b
 dev_cmp-ranks (Some m) (Some n) = refl
-dev_cmp-ranks (Some m) None = refl
-dev_cmp-ranks None (Some n) = refl
-dev_cmp-ranks None None = refl
+dev_cmp-ranks a (Some n) = refl
+dev_cmp-ranks a b = refl
 
 pub dev_total : IsTotalOrder dev_cmp
 dev_total = total_along dev_cmp (then_cmp (on dev_rank nat_cmp) (option_cmp nat_cmp))
     (then_total (on_total dev_rank nat_cmp_total) (options_total nat_cmp_total)) dev_cmp-ranks
 
 -- a segment's rank in the order: 0 and its text, or 1 and its number
-abbrev segment_rank : LocalPart → ℕ
-segment_rank (Text text) = 0
-segment_rank (Number n) = 1
-
-abbrev segment_letters : LocalPart → List ℕ
-segment_letters (Text text) = text
-segment_letters (Number n) = []
-
-abbrev segment_number : LocalPart → ℕ
-segment_number (Text text) = 0
-segment_number (Number n) = n
+abbrev segment_ranks : LocalPart → ℕ × ℕ × List ℕ
+segment_ranks (Text text) = (0, 0, text)
+segment_ranks (Number n) = (1, n, [])
 
 abbrev segment_rank_cmp : LocalPart → LocalPart → Ordering
-segment_rank_cmp = then_cmp (on segment_rank nat_cmp)
-    (then_cmp (on segment_number nat_cmp) (on segment_letters (slice_cmp nat_cmp)))
+segment_rank_cmp = then_cmp (on (λ (s : LocalPart). (segment_ranks s).0) nat_cmp)
+    (then_cmp (on (λ (s : LocalPart). (segment_ranks s).1) nat_cmp)
+    (on (λ (s : LocalPart). (segment_ranks s).2) (slice_cmp nat_cmp)))
 
 pub then-Equal : (r : Ordering) → ordering_then r Equal ≡ r
 then-Equal Less = refl
-then-Equal Equal = refl
-then-Equal Greater = refl
+then-Equal r = refl
 
 segment_cmp-ranks : (a b : LocalPart) → segment_cmp a b ≡ segment_rank_cmp a b
 segment_cmp-ranks (Number m) (Number n) = sym (then-Equal (nat_cmp m n))
-segment_cmp-ranks (Number m) (Text b) = refl
-segment_cmp-ranks (Text a) (Number n) = refl
-segment_cmp-ranks (Text a) (Text b) = refl
+segment_cmp-ranks a (Number n) = refl
+segment_cmp-ranks a b = refl
 
 pub segment_total : IsTotalOrder segment_cmp
 segment_total = total_along segment_cmp segment_rank_cmp
-    (then_total (on_total segment_rank nat_cmp_total)
-    (then_total (on_total segment_number nat_cmp_total)
-    (on_total segment_letters nat_list_cmp_total)))
+    (then_total (on_total (λ (s : LocalPart). (segment_ranks s).0) nat_cmp_total)
+    (then_total (on_total (λ (s : LocalPart). (segment_ranks s).1) nat_cmp_total)
+    (on_total (λ (s : LocalPart). (segment_ranks s).2) nat_list_cmp_total)))
     segment_cmp-ranks
 
 -- the comparisons in turn, the phase by its rank and its number; behind them all are equal

@@ -25,29 +25,20 @@ use Rattle.pymark_core.specs.declared.operand.Comparator.TheVariants.{By, In, No
 use Rattle.pymark_core.specs.declared.operand.Operand.{Operand}
 
 or_opened : (o i : Bool) → ((o || i) || ((false || false) || false)) ≡ ((o || (i || false)) || false)
-or_opened true i = refl
 or_opened false true = refl
-or_opened false false = refl
+or_opened o i = refl
 
 or_closed : (o f x : Bool) → (o || (f || x)) ≡ (((o || f) || x) || false)
-or_closed true f x = refl
-or_closed false true x = refl
 or_closed false false true = refl
-or_closed false false false = refl
+or_closed o f x = refl
 
 or_joined : (o c xs a : Bool) → (o || ((c || (xs || (a || false))) || false)) ≡ ((o || ((c || xs) || a)) || false)
-or_joined true c xs a = refl
-or_joined false true xs a = refl
-or_joined false false true a = refl
 or_joined false false false true = refl
-or_joined false false false false = refl
+or_joined o c xs a = refl
 
 or_parted : (o c xs a : Bool) → (o || (((c || ((xs || a) || false)) || false) || false)) ≡ ((o || ((c || xs) || a)) || false)
-or_parted true c xs a = refl
-or_parted false true xs a = refl
-or_parted false false true a = refl
 or_parted false false false true = refl
-or_parted false false false false = refl
+or_parted o c xs a = refl
 
 module _ (p : ComparisonValue → Bool) where
   -- whether a comparison passes, in each part of what was read
@@ -65,11 +56,8 @@ module _ (p : ComparisonValue → Bool) where
   outer_any (f ∷ outer) = outer_any outer || frame_any f
 
   abbrev pub stage_any : Stage → Bool
-  stage_any at_atom = false
-  stage_any (at_operator left) = false
-  stage_any (at_in left) = false
-  stage_any (at_right left comparator) = false
   stage_any (at_rest atom) = atom_any atom
+  stage_any stage = false
 
   abbrev pub state_any : ReaderState → Bool
   state_any state = outer_any state.outer || (frame_any state.inner || stage_any state.stage)
@@ -108,8 +96,6 @@ module _ (p : ComparisonValue → Bool) where
       ∙ sym (or_assoc (outer_any outer) (frame_any inner || stage_any before) (list_any p cs))
 
   left_none : (left : Operand) (t : Token) (s : Stage) → stage_after_left left t ≡ Some s → stage_any s ≡ false
-  left_none left opening s e = absurd cc
-  left_none left closing s e = absurd cc
   left_none left (sign operator) s e = let is : at_right left (By operator) ≡ s = cc in rw (← is) refl
   left_none left (word letters) s e = elim (cond_cases (bytes_eq (codes "in") letters) _ _ _ e) [
     | inl w ↦ let is : at_right left In ≡ s = cc in rw (← is) refl
@@ -118,17 +104,14 @@ module _ (p : ComparisonValue → Bool) where
       | inr w ↦ absurd cc
     ]
   ]
-  left_none left (quoted text) s e = absurd cc
+  left_none left t s e = absurd cc
 
   not_none : (left : Operand) (t : Token) (s : Stage) → stage_after_not left t ≡ Some s → stage_any s ≡ false
-  not_none left opening s e = absurd cc
-  not_none left closing s e = absurd cc
-  not_none left (sign operator) s e = absurd cc
   not_none left (word letters) s e = elim (cond_cases (bytes_eq (codes "in") letters) _ _ _ e) [
     | inl w ↦ let is : at_right left NotIn ≡ s = cc in rw (← is) refl
     | inr w ↦ absurd cc
   ]
-  not_none left (quoted text) s e = absurd cc
+  not_none left t s e = absurd cc
 
   right_from : (left : Operand) (o : Comparator) (found : Option Operand) (right : Operand) → found ≡ Some right
       → list_any p (option_to_list (option_map (λ x. record { left = left; comparator = o; right = x }) found)) ≡ (p (record { left = left; comparator = o; right = right }) || false)
@@ -160,8 +143,7 @@ module _ (p : ComparisonValue → Bool) where
       rw (← is) (or_opened (outer_any outer) (frame_any inner))
   start_adds outer inner closing next e = absurd cc
   start_adds outer inner (sign operator) next e = absurd cc
-  start_adds outer inner (word letters) next e = start_operand outer inner (word letters) next e
-  start_adds outer inner (quoted text) next e = start_operand outer inner (quoted text) next e
+  start_adds outer inner t next e = start_operand outer inner t next e
 
   closing_adds : (outer : List Frame) (inner : Frame) (a : Atom) (next : ReaderState) → state_after_closing outer inner a ≡ Some next
       → Adds (record { outer = outer; inner = inner; stage = at_rest a }) [] next
@@ -172,9 +154,7 @@ module _ (p : ComparisonValue → Bool) where
 
   atom_adds : (outer : List Frame) (inner : Frame) (a : Atom) (t : Token) (next : ReaderState) → state_after_atom outer inner a t ≡ Some next
       → Adds (record { outer = outer; inner = inner; stage = at_rest a }) [] next
-  atom_adds outer inner a opening next e = absurd cc
   atom_adds outer inner a closing next e = closing_adds outer inner a next e
-  atom_adds outer inner a (sign operator) next e = absurd cc
   atom_adds outer inner a (word letters) next e = elim (cond_cases (bytes_eq (codes "and") letters) _ _ _ e) [
     | inl w ↦
         let is : record { outer = outer; inner = record { conjunctions = inner.conjunctions; atoms = inner.atoms ++ a ∷ [] }; stage = at_atom } ≡ next = cc in
@@ -189,7 +169,7 @@ module _ (p : ComparisonValue → Bool) where
       | inr w ↦ absurd cc
     ]
   ]
-  atom_adds outer inner a (quoted text) next e = absurd cc
+  atom_adds outer inner a t next e = absurd cc
 
   state_adds : (outer : List Frame) (inner : Frame) (stage : Stage) (t : Token) (next : ReaderState) → next_state_at outer inner stage t ≡ Some next
       → Adds (record { outer = outer; inner = inner; stage = stage }) (comparison_ended_by stage t) next
@@ -206,11 +186,7 @@ module _ (p : ComparisonValue → Bool) where
   tree_at_end_any : (outer : List Frame) (stage : Stage) (inner : Frame) (tree : Tree) → tree_at_end outer stage inner ≡ Some tree
       → list_any p (comparisons tree) ≡ (outer_any outer || (frame_any inner || stage_any stage))
   tree_at_end_any [] (at_rest a) inner tree e = let is : frame_tree inner a ≡ tree = cc in rw (← is) (any_frame inner a)
-  tree_at_end_any [] at_atom inner tree e = absurd cc
-  tree_at_end_any [] (at_operator left) inner tree e = absurd cc
-  tree_at_end_any [] (at_in left) inner tree e = absurd cc
-  tree_at_end_any [] (at_right left o) inner tree e = absurd cc
-  tree_at_end_any (frame ∷ outer) stage inner tree e = absurd cc
+  tree_at_end_any outer stage inner tree e = absurd cc
 
   pub final_tree_any : (state : ReaderState) (tree : Tree) → final_tree state ≡ Some tree → list_any p (comparisons tree) ≡ state_any state
   unfolding final_tree

@@ -1,5 +1,7 @@
 -- A `BTreeSet` of texts as the finite set of their bytes.
 use Rattle.std.proofs.Common.{Ordering, Less, Equal, Greater, inl, inr, ◌≡◌, ℕ, Bool, true, false, cond, not, ◌&&◌, ◌||◌, List, [], ◌∷◌, map, ◌∙◌, ap, refl, sym}
+use Rattle.std.specs.Cmp.{Equal-is}
+use Rattle.pymark_core.proofs.Lemmas.Marker.Depth.{any_map}
 use Rattle.std.proofs.lemmas.Bool.{cases_Bool}
 use Rattle.std.proofs.lemmas.Map.Text.{btree_set_updates_text, is_eq-slice_cmp}
 use Rattle.std.specs.BTreeSet.{BTreeSet, UpdatesBy, contains_text}
@@ -19,14 +21,10 @@ use Rattle.pymark_core.specs.Environment.{AreNormal, Texts}
 abbrev pub seen : {Y : Type 0} → BTreeSet (String Y) → Texts
 seen s = set.from_list (map string_bytes s.keys)
 
-any_mapped : {X Z : Type 0} (p : Z → Bool) (f : X → Z) (xs : List X) → list_any p (map f xs) ≡ list_any (λ x. p (f x)) xs
-any_mapped p f [] = refl
-any_mapped p f (x ∷ xs) = ap (λ b. p (f x) || b) (any_mapped p f xs)
-
 pub contains-seen : {Y : Type 0} (s : BTreeSet (String Y)) (q : List ℕ) → set.contains (seen s) q ≡ contains_text s q
 contains-seen s q =
     set.contains-from_list nat_list_cmp_total (map string_bytes s.keys) q
-    ∙ any_mapped (eq_by_cmp (slice_cmp nat_cmp) q) string_bytes s.keys
+    ∙ any_map string_bytes (eq_by_cmp (slice_cmp nat_cmp) q) s.keys
 
 alike : (k q : List ℕ) → bytes_eq k q ≡ eq_by_cmp (slice_cmp nat_cmp) q k
 alike k q = nat_list_eq_equiv.symm k q ∙ sym (is_eq-slice_cmp q k)
@@ -70,13 +68,8 @@ bytes_rise (k ∷ ks) rise = (each_mapped (λ text. slice_cmp nat_cmp (string_by
 pub empty_contains : (q : List ℕ) → false ≡ set.contains {R = slice_cmp nat_cmp} set.empty q
 empty_contains q = sym (set.contains-empty (slice_cmp nat_cmp) q)
 
-is_equal : (o : Ordering) → is_eq o ≡ true → o ≡ Equal
-is_equal Less is = absurd cc
-is_equal Equal is = refl
-is_equal Greater is = absurd cc
-
 same_text : (k q : List ℕ) → eq_by_cmp (slice_cmp nat_cmp) q k ≡ true → q ≡ k
-same_text k q is = slice_cmp-IsAntisymmetric nat_cmp-IsAntisymmetric q k (is_equal _ is)
+same_text k q is = slice_cmp-IsAntisymmetric nat_cmp-IsAntisymmetric q k ((Equal-is _).0 is)
 
 -- a text that is in is not put in again, and one that is out is not taken out
 module _ (s : Texts) (k : List ℕ) where
@@ -99,9 +92,8 @@ module _ (s : Texts) (k : List ℕ) where
 -- clones of texts have their bytes
 pub seen-clone : {Y : Type 0} (s n : List (String Y)) → AllZip (λ x y. string_bytes y ≡ string_bytes x) s n → map string_bytes n ≡ map string_bytes s
 seen-clone [] [] each = refl
-seen-clone [] (y ∷ ys) each = absurd each
-seen-clone (x ∷ xs) [] each = absurd each
 seen-clone (x ∷ xs) (y ∷ ys) each = λ i. each.0 i ∷ seen-clone xs ys each.1 i
+seen-clone s n each = absurd each
 
 -- ---- names in normal form
 

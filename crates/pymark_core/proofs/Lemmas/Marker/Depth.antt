@@ -15,7 +15,7 @@ pub any_same : {X : Type 0} (p q : X → Bool) → ((x : X) → p x ≡ q x) →
 any_same p q same [] = refl
 any_same p q same (x ∷ xs) = rw (same x, any_same p q same xs) refl
 
-any_map : {X Y : Type 0} (f : X → Y) (p : Y → Bool) (xs : List X) → list_any p (map f xs) ≡ list_any (λ x. p (f x)) xs
+pub any_map : {X Y : Type 0} (f : X → Y) (p : Y → Bool) (xs : List X) → list_any p (map f xs) ≡ list_any (λ x. p (f x)) xs
 any_map f p [] = refl
 any_map f p (x ∷ xs) = rw (any_map f p xs) refl
 

@@ -21,11 +21,9 @@ dash_is b is = grind (arith, nat_tests)
 
 goes_on_parts : (after is normal goes : Bool) → cond ((after && is) || not normal) false goes ≡ true
     → ((after && is) ≡ false) × (normal ≡ true) × (goes ≡ true)
-goes_on_parts true true normal goes e = absurd cc
 goes_on_parts true false true goes e = (refl, refl, e)
-goes_on_parts true false false goes e = absurd cc
 goes_on_parts false is true goes e = (refl, refl, e)
-goes_on_parts false is false goes e = absurd cc
+goes_on_parts after is normal goes e = absurd cc
 
 not_both : (after is : Bool) → (after && is) ≡ false → after ≡ true → is ≡ false
 not_both true is e f = e

@@ -26,15 +26,7 @@ text_from (operator ∷ operand ∷ rest) = operator ++ operand_from operand res
 
 text_is : (s : Specifier) → specifier_text s ≡ text_from (specifier_pieces s)
 text_is (Equal v) = refl
-text_is (EqualPrefix prefix) = refl
-text_is (NotEqual v) = refl
-text_is (NotEqualPrefix prefix) = refl
-text_is (AtMost v) = refl
-text_is (AtLeast v) = refl
-text_is (Before v) = refl
-text_is (After v) = refl
-text_is (Compatible v) = refl
-text_is (Arbitrary text) = refl
+text_is s = refl
 
 pub same_text : (s t : Specifier) → specifier_eq s t ≡ true → specifier_text s ≡ specifier_text t
 same_text s t e = text_is s ∙ ap text_from ((pointwise_decides bytes_decides (specifier_pieces s) (specifier_pieces t)).0 e) ∙ sym (text_is t)
@@ -42,12 +34,11 @@ same_text s t e = text_is s ∙ ap text_from ((pointwise_decides bytes_decides (
 -- alike from the first on, and after another
 same_texts : (xs ys : List Specifier) → set_eq xs ys ≡ true → (set_text xs ≡ set_text ys) × (flat_map comma_specifier xs ≡ flat_map comma_specifier ys)
 same_texts [] [] e = (refl, refl)
-same_texts [] (y ∷ ys) e = absurd cc
-same_texts (x ∷ xs) [] e = absurd cc
 same_texts (x ∷ xs) (y ∷ ys) e =
     let first = same_text x y (first_so (specifier_eq x y) (set_eq xs ys) e) in
     let rest = (same_texts xs ys (second_so (specifier_eq x y) (set_eq xs ys) e)).1 in
     (rw (first, rest) refl, rw (first, rest) refl)
+same_texts xs ys e = absurd cc
 
 pub same_set_text : (xs ys : List Specifier) → set_eq xs ys ≡ true → set_text xs ≡ set_text ys
 same_set_text xs ys e = (same_texts xs ys e).0

@@ -9,11 +9,7 @@ use Rattle.pyver_core.specs.Version.OrderLaws.{then-Equal}
 use Rattle.pyver_core.specs.Version.Parts.{Parts, base_release}
 use Rattle.pyver_core.specs.Inner.Releases.{release_cmp-both}
 use Rattle.pyver_core.specs.Inner.Tails.{tail_cmp}
-
-joined : (a b rest : Ordering) → ordering_then (ordering_then a b) rest ≡ ordering_then a (ordering_then b rest)
-joined Less b rest = refl
-joined Equal b rest = refl
-joined Greater b rest = refl
+use Rattle.pyver_core.proofs.Lemmas.Version.Order.InTurn.{then_assoc}
 
 decided : (front tail : Ordering) → front ≢ Equal → ordering_then front tail ≡ front
 decided Less tail other = refl
@@ -27,7 +23,7 @@ fronts_then_tails : (v w : Parts) (front : Ordering)
 unfolding version_cmp tail_cmp
 fronts_then_tails v w front is =
     ap (λ (f : Ordering). ordering_then f (tail_cmp v w)) is
-    ∙ joined (nat_cmp v.epoch w.epoch) (release_cmp v.release w.release) (tail_cmp v w)
+    ∙ then_assoc (nat_cmp v.epoch w.epoch) (release_cmp v.release w.release) (tail_cmp v w)
 
 pub fronts_decide : (v w : Parts) (front : Ordering)
     → front ≡ ordering_then (nat_cmp v.epoch w.epoch) (release_cmp v.release w.release)
@@ -61,4 +57,4 @@ release_cmp_fronts (suc n) (x ∷ a) [] left right = absurd (omega arith)
 release_cmp_fronts (suc n) (x ∷ a) (y ∷ b) left right =
     release_cmp-both x a y b
     ∙ ap (ordering_then (nat_cmp x y)) (release_cmp_fronts n a b (omega arith) (omega arith))
-    ∙ sym (joined (nat_cmp x y) (slice_cmp nat_cmp (take n a) (take n b)) (release_cmp (drop n a) (drop n b)))
+    ∙ sym (then_assoc (nat_cmp x y) (slice_cmp nat_cmp (take n a) (take n b)) (release_cmp (drop n a) (drop n b)))

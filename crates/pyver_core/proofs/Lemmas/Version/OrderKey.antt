@@ -12,6 +12,7 @@ use Rattle.std.proofs.lemmas.Bool.Decides.{nat_tests}
 use Rattle.std.proofs.Math.Nat.{pow-suc}
 use Rattle.std.proofs.lemmas.Cmp.{nat_list_cmp_total, tied_itself}
 use Rattle.std.specs.FinMap.{nat_cmp-IsAntisymmetric, slice_cmp-IsAntisymmetric}
+use Rattle.pyver_core.specs.Version.OrderLaws.{then-Equal}
 use Rattle.pyver_core.specs.Version.Order.{dev_cmp, phase_number, phase_rank, IsSame, segment_cmp, version_cmp}
 use Rattle.pyver_core.specs.Version.OrderKey.{list_key, number_key, number_key_with_fuel, optional_key, order_key, segment_key}
 use Rattle.pyver_core.specs.Version.Parts.{Parts}
@@ -225,11 +226,6 @@ order_keeps v w s t =
     let epoch = number_keeps v.epoch w.epoch (list_key number_key stripped ++ from_rank) (list_key number_key stripped' ++ from_rank')
     ∙ ap (ordering_then (nat_cmp v.epoch w.epoch)) release in
     (λ i. K (order_key-parts v s i) (order_key-parts w t i)) ∙ epoch ∙ sym (version_cmp-then v w (K s t))
-
-then-Equal : (r : Ordering) → ordering_then r Equal ≡ r
-then-Equal Less = refl
-then-Equal Equal = refl
-then-Equal Greater = refl
 
 pub keys_order : (v w : Parts) → slice_cmp nat_cmp (order_key v) (order_key w) ≡ version_cmp v w
 keys_order v w =

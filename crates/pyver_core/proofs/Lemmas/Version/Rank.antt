@@ -2,7 +2,7 @@
 use Rattle.std.proofs.Common.{◌≡◌, ◌≢◌, ℕ, suc, ◌+◌, ◌-◌, ◌*◌, ◌<◌, ◌≤◌, ◌==◌, ◌&&◌, cond, not, Bool, true, false, List, [], ◌∷◌, length, Option, Some, None, refl, sym, ap, ◌∙◌, arith}
 use Rattle.std.proofs.Math.Nat.{mul-le-mul_left}
 use Rattle.std.proofs.lemmas.Bool.{eqb-true, ltb-true}
-use Rattle.std.proofs.lemmas.List.{append-nil}
+use Rattle.std.proofs.lemmas.List.{nil_from_length}
 use Rattle.std.specs.Prelude.{nat_lt}
 use Rattle.std.specs.List.{fold, list_all}
 use Rattle.std.specs.Ordering.{MatchOrdering, nat_cmp, ordering_then}
@@ -12,14 +12,13 @@ use Rattle.std.specs.Cmp.Lexicographic.{slice_cmp}
 use Rattle.std.specs.declared.cmp.Ordering.{Ordering}
 use Rattle.std.specs.declared.cmp.Ordering.TheVariants.{Less, Equal, Greater}
 use Rattle.pyver_core.specs.Inner.Rank.{are_digits, four_numbers, has_rank, in_base_4096, is_one_suffix, rank_of, suffix_of}
-use Rattle.pyver_core.specs.Inner.Releases.{release_cmp_without_zeros}
+use Rattle.pyver_core.specs.Inner.Releases.{release_cmp_without_zeros, same_length_cmp, without_trailing_zeros-append_zeros}
 use Rattle.pyver_core.specs.Version.Order.{cmp_in_turn, dev_cmp, phase_number, phase_rank, release_cmp, version_cmp}
 use Rattle.pyver_core.specs.Version.OrderLaws.{then-Equal}
 use Rattle.pyver_core.specs.Version.Parts.{Parts, public_part}
 use Rattle.pyver_core.specs.declared.version.part.PreKind.{PreKind}
 use Rattle.pyver_core.specs.declared.version.part.PreKind.TheVariants.{A, B, Rc}
 use Rattle.pyver_core.proofs.Lemmas.Version.Order.InTurn.{then_assoc}
-use Rattle.pyver_core.proofs.Lemmas.Version.Order.Zeros.{without_trailing_zeros-append_zeros}
 
 -- ---- digits
 
@@ -44,29 +43,20 @@ nat_cmp-digit base a b x y left right =
 digits_in_turn : (p q : List ℕ) (r s : ℕ) → length p ≡ length q → list_all (λ n. nat_lt n 4096) p ≡ true → list_all (λ n. nat_lt n 4096) q ≡ true
     → nat_cmp (fold (λ front n. front * 4096 + n) r p) (fold (λ front n. front * 4096 + n) s q) ≡ ordering_then (nat_cmp r s) (slice_cmp nat_cmp p q)
 digits_in_turn [] [] r s same left right = sym (then-Equal (nat_cmp r s))
-digits_in_turn [] (y ∷ q) r s same left right = absurd (omega arith)
-digits_in_turn (x ∷ p) [] r s same left right = absurd (omega arith)
 digits_in_turn (x ∷ p) (y ∷ q) r s same left right =
     digits_in_turn p q (r * 4096 + x) (s * 4096 + y) (omega arith) (second_so _ _ left) (second_so _ _ right)
     ∙ ap (λ o. ordering_then o (slice_cmp nat_cmp p q))
     (nat_cmp-digit 4096 r s x y (ltb-true x 4096 (first_so _ _ left)) (ltb-true y 4096 (first_so _ _ right)))
     ∙ then_assoc (nat_cmp r s) (nat_cmp x y) (slice_cmp nat_cmp p q)
+digits_in_turn p q r s same left right = absurd (omega arith)
 
 -- releases compare as four numbers each
-same_length_cmp : (a b : List ℕ) → length a ≡ length b → release_cmp a b ≡ slice_cmp nat_cmp a b
-unfolding release_cmp
-same_length_cmp a b same =
-    let left : length b - length a ≡ 0 = omega arith in
-    let right : length a - length b ≡ 0 = omega arith in
-    rw (left, right, append-nil a, append-nil b) refl
-
 padded_cmp : (a b : List ℕ) → length (four_numbers a) ≡ 4 → length (four_numbers b) ≡ 4
     → release_cmp a b ≡ slice_cmp nat_cmp (four_numbers a) (four_numbers b)
 padded_cmp a b left right =
     release_cmp_without_zeros a b
     ∙ (λ i. slice_cmp nat_cmp (sym (without_trailing_zeros-append_zeros a (4 - length a)) i) (sym (without_trailing_zeros-append_zeros b (4 - length b)) i))
-    ∙ sym (release_cmp_without_zeros (four_numbers a) (four_numbers b))
-    ∙ same_length_cmp (four_numbers a) (four_numbers b) (left ∙ sym right)
+    ∙ sym (same_length_cmp (four_numbers a) (four_numbers b) (left ∙ sym right))
 
 -- ---- the suffix
 
@@ -74,59 +64,28 @@ padded_cmp a b left right =
 suffixes_in_turn : (p : Option (PreKind × ℕ)) (q d : Option ℕ) (p' : Option (PreKind × ℕ)) (q' d' : Option ℕ) → (suffix_of p q d).0 ≢ 0 → (suffix_of p' q' d').0 ≢ 0
     → ordering_then (nat_cmp (suffix_of p q d).0 (suffix_of p' q' d').0) (nat_cmp (suffix_of p q d).1 (suffix_of p' q' d').1)
     ≡ cmp_in_turn (nat_cmp (phase_rank p q d) (phase_rank p' q' d') ∷ nat_cmp (phase_number p) (phase_number p') ∷ option_cmp nat_cmp q q' ∷ dev_cmp d d' ∷ Equal ∷ [])
+suffixes_in_turn (Some (A, m)) None None (Some (A, n)) None None left right = sym (then-Equal (nat_cmp m n))
+suffixes_in_turn (Some (B, m)) None None (Some (B, n)) None None left right = sym (then-Equal (nat_cmp m n))
+suffixes_in_turn (Some (Rc, m)) None None (Some (Rc, n)) None None left right = sym (then-Equal (nat_cmp m n))
+suffixes_in_turn None None (Some m) None None (Some n) left right = sym (then-Equal (nat_cmp m n))
+suffixes_in_turn None (Some m) None None (Some n) None left right = sym (then-Equal (nat_cmp m n))
 suffixes_in_turn (Some p) (Some q) d p' q' d' left right = absurd (left refl)
 suffixes_in_turn (Some p) None (Some d) p' q' d' left right = absurd (left refl)
 suffixes_in_turn None (Some q) (Some d) p' q' d' left right = absurd (left refl)
 suffixes_in_turn p q d (Some p') (Some q') d' left right = absurd (right refl)
 suffixes_in_turn p q d (Some p') None (Some d') left right = absurd (right refl)
 suffixes_in_turn p q d None (Some q') (Some d') left right = absurd (right refl)
-suffixes_in_turn None None (Some m) None None (Some n) left right = sym (then-Equal (nat_cmp m n))
-suffixes_in_turn None None (Some m) (Some (A, n)) None None left right = refl
-suffixes_in_turn None None (Some m) (Some (B, n)) None None left right = refl
-suffixes_in_turn None None (Some m) (Some (Rc, n)) None None left right = refl
-suffixes_in_turn None None (Some m) None None None left right = refl
-suffixes_in_turn None None (Some m) None (Some n) None left right = refl
-suffixes_in_turn (Some (A, m)) None None None None (Some n) left right = refl
-suffixes_in_turn (Some (A, m)) None None (Some (A, n)) None None left right = sym (then-Equal (nat_cmp m n))
-suffixes_in_turn (Some (A, m)) None None (Some (B, n)) None None left right = refl
-suffixes_in_turn (Some (A, m)) None None (Some (Rc, n)) None None left right = refl
-suffixes_in_turn (Some (A, m)) None None None None None left right = refl
-suffixes_in_turn (Some (A, m)) None None None (Some n) None left right = refl
-suffixes_in_turn (Some (B, m)) None None None None (Some n) left right = refl
-suffixes_in_turn (Some (B, m)) None None (Some (A, n)) None None left right = refl
-suffixes_in_turn (Some (B, m)) None None (Some (B, n)) None None left right = sym (then-Equal (nat_cmp m n))
-suffixes_in_turn (Some (B, m)) None None (Some (Rc, n)) None None left right = refl
-suffixes_in_turn (Some (B, m)) None None None None None left right = refl
-suffixes_in_turn (Some (B, m)) None None None (Some n) None left right = refl
-suffixes_in_turn (Some (Rc, m)) None None None None (Some n) left right = refl
-suffixes_in_turn (Some (Rc, m)) None None (Some (A, n)) None None left right = refl
-suffixes_in_turn (Some (Rc, m)) None None (Some (B, n)) None None left right = refl
-suffixes_in_turn (Some (Rc, m)) None None (Some (Rc, n)) None None left right = sym (then-Equal (nat_cmp m n))
-suffixes_in_turn (Some (Rc, m)) None None None None None left right = refl
-suffixes_in_turn (Some (Rc, m)) None None None (Some n) None left right = refl
-suffixes_in_turn None None None None None (Some n) left right = refl
-suffixes_in_turn None None None (Some (A, n)) None None left right = refl
-suffixes_in_turn None None None (Some (B, n)) None None left right = refl
-suffixes_in_turn None None None (Some (Rc, n)) None None left right = refl
-suffixes_in_turn None None None None None None left right = refl
-suffixes_in_turn None None None None (Some n) None left right = refl
-suffixes_in_turn None (Some m) None None None (Some n) left right = refl
-suffixes_in_turn None (Some m) None (Some (A, n)) None None left right = refl
-suffixes_in_turn None (Some m) None (Some (B, n)) None None left right = refl
-suffixes_in_turn None (Some m) None (Some (Rc, n)) None None left right = refl
-suffixes_in_turn None (Some m) None None None None left right = refl
-suffixes_in_turn None (Some m) None None (Some n) None left right = sym (then-Equal (nat_cmp m n))
+suffixes_in_turn p q d (Some (A, n)) None None left right = refl
+suffixes_in_turn p q d None None (Some n) left right = refl
+suffixes_in_turn p q d p' q' d' left right = refl
 
 kind_fits : (p : Option (PreKind × ℕ)) (q d : Option ℕ) → (suffix_of p q d).0 < 8
-kind_fits None None None = omega arith
 kind_fits None None (Some d) = omega arith
-kind_fits None (Some q) None = omega arith
 kind_fits None (Some q) (Some d) = omega arith
-kind_fits (Some (A, n)) None None = omega arith
-kind_fits (Some (B, n)) None None = omega arith
-kind_fits (Some (Rc, n)) None None = omega arith
-kind_fits (Some p) None (Some d) = omega arith
-kind_fits (Some p) (Some q) d = omega arith
+kind_fits (Some (A, n)) None (Some d) = omega arith
+kind_fits (Some (B, n)) None (Some d) = omega arith
+kind_fits (Some (Rc, n)) None (Some d) = omega arith
+kind_fits p q d = omega arith
 
 -- ---- the rank
 
@@ -144,10 +103,6 @@ chosen : (b : Bool) (n : ℕ) → cond b n 0 ≢ 0 → b ≡ true
 chosen true n some = refl
 chosen false n some = absurd (some refl)
 
-nothing : {A : Type 0} (xs : List A) → length xs ≡ 0 → xs ≡ []
-nothing [] none = refl
-nothing (x ∷ xs) none = absurd (omega arith)
-
 is_one : (b : Bool) (n : ℕ) → (not (n == 0) && b) ≡ true → n ≢ 0
 is_one b n e none = cc (e, ap (λ k. not (k == 0) && b) none)
 
@@ -162,7 +117,7 @@ is_ranked v some =
     let digits : are_digits (four_numbers v.release) ≡ true = second_so _ _ parts in
     record {
       epoch = eqb-true v.epoch 0 (first_so _ _ all);
-      local = nothing v.local (eqb-true (length v.local) 0 (first_so _ _ behind));
+      local = nil_from_length v.local (eqb-true (length v.local) 0 (first_so _ _ behind));
       four = eqb-true _ 4 (first_so _ _ digits);
       digits = second_so _ _ digits;
       kind = is_one (nat_lt suffix.1 8192) suffix.0 one;

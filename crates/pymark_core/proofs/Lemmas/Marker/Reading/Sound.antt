@@ -86,15 +86,11 @@ word_sound letters o e = elim (cond_cases (bytes_eq (codes "extra") letters) _ _
 
 pub operand_sound : (t : Token) (o : Operand) → token_operand t ≡ Some o → operand_token o ≡ t
 unfolding token_operand
-operand_sound opening o e = absurd cc
-operand_sound closing o e = absurd cc
-operand_sound (sign operator) o e = absurd cc
 operand_sound (word letters) o e = word_sound letters o e
 operand_sound (quoted text) o e = let is : Text text ≡ o = cc in rw (← is) refl
+operand_sound t o e = absurd cc
 
 left_sound : (left : Operand) (t : Token) (s : Stage) (ts : List Token) → stage_after_left left t ≡ Some s → stage_tokens s ts ≡ operand_token left ∷ t ∷ ts
-left_sound left opening s ts e = absurd cc
-left_sound left closing s ts e = absurd cc
 left_sound left (sign operator) s ts e = let is : at_right left (By operator) ≡ s = cc in rw (← is) refl
 left_sound left (word letters) s ts e = elim (cond_cases (bytes_eq (codes "in") letters) _ _ _ e) [
   | inl w ↦ let is : at_right left In ≡ s = cc in rw (← is, same_word (codes "in") letters w.0) refl
@@ -103,17 +99,14 @@ left_sound left (word letters) s ts e = elim (cond_cases (bytes_eq (codes "in") 
     | inr w ↦ absurd cc
   ]
 ]
-left_sound left (quoted text) s ts e = absurd cc
+left_sound left t s ts e = absurd cc
 
 not_sound : (left : Operand) (t : Token) (s : Stage) (ts : List Token) → stage_after_not left t ≡ Some s → stage_tokens s ts ≡ operand_token left ∷ word (codes "not") ∷ t ∷ ts
-not_sound left opening s ts e = absurd cc
-not_sound left closing s ts e = absurd cc
-not_sound left (sign operator) s ts e = absurd cc
 not_sound left (word letters) s ts e = elim (cond_cases (bytes_eq (codes "in") letters) _ _ _ e) [
   | inl w ↦ let is : at_right left NotIn ≡ s = cc in rw (← is, same_word (codes "in") letters w.0) refl
   | inr w ↦ absurd cc
 ]
-not_sound left (quoted text) s ts e = absurd cc
+not_sound left t s ts e = absurd cc
 
 right_sound : (left : Operand) (o : Comparator) (t : Token) (s : Stage) (ts : List Token) → stage_after_right left o t ≡ Some s → stage_tokens s ts ≡ operand_token left ∷ comparator_tokens o (t ∷ ts)
 right_sound left o t s ts e =
@@ -142,8 +135,7 @@ start_sound outer inner opening next ts e =
     let is : record { outer = inner ∷ outer; inner = empty_frame; stage = at_atom } ≡ next = cc in rw (← is) refl
 start_sound outer inner closing next ts e = absurd cc
 start_sound outer inner (sign operator) next ts e = absurd cc
-start_sound outer inner (word letters) next ts e = start_operand outer inner (word letters) next ts e
-start_sound outer inner (quoted text) next ts e = start_operand outer inner (quoted text) next ts e
+start_sound outer inner t next ts e = start_operand outer inner t next ts e
 
 closing_sound : (outer : List Frame) (inner : Frame) (a : Atom) (next : ReaderState) (ts : List Token)
     → state_after_closing outer inner a ≡ Some next → state_tokens next ts ≡ outer_tokens outer (frame_tokens inner (atom_tokens a (closing ∷ ts)))
@@ -154,9 +146,7 @@ closing_sound (frame ∷ outer) inner a next ts e =
 
 atom_sound : (outer : List Frame) (inner : Frame) (a : Atom) (t : Token) (next : ReaderState) (ts : List Token)
     → state_after_atom outer inner a t ≡ Some next → state_tokens next ts ≡ outer_tokens outer (frame_tokens inner (atom_tokens a (t ∷ ts)))
-atom_sound outer inner a opening next ts e = absurd cc
 atom_sound outer inner a closing next ts e = closing_sound outer inner a next ts e
-atom_sound outer inner a (sign operator) next ts e = absurd cc
 atom_sound outer inner a (word letters) next ts e = elim (cond_cases (bytes_eq (codes "and") letters) _ _ _ e) [
   | inl w ↦
       let is : record { outer = outer; inner = record { conjunctions = inner.conjunctions; atoms = inner.atoms ++ a ∷ [] }; stage = at_atom } ≡ next = cc in
@@ -169,7 +159,7 @@ atom_sound outer inner a (word letters) next ts e = elim (cond_cases (bytes_eq (
     | inr w ↦ absurd cc
   ]
 ]
-atom_sound outer inner a (quoted text) next ts e = absurd cc
+atom_sound outer inner a t next ts e = absurd cc
 
 next_state_at_sound : (outer : List Frame) (inner : Frame) (stage : Stage) (t : Token) (next : ReaderState) (ts : List Token)
     → next_state_at outer inner stage t ≡ Some next → state_tokens next ts ≡ outer_tokens outer (frame_tokens inner (stage_tokens stage (t ∷ ts)))
@@ -182,11 +172,7 @@ next_state_at_sound outer inner (at_rest a) t next ts e = atom_sound outer inner
 tree_at_end_sound : (outer : List Frame) (stage : Stage) (inner : Frame) (tree : Tree)
     → tree_at_end outer stage inner ≡ Some tree → tree_tokens tree [] ≡ outer_tokens outer (frame_tokens inner (stage_tokens stage []))
 tree_at_end_sound [] (at_rest a) inner tree e = let is : frame_tree inner a ≡ tree = cc in rw (← is) (frame_joined inner a [])
-tree_at_end_sound [] at_atom inner tree e = absurd cc
-tree_at_end_sound [] (at_operator left) inner tree e = absurd cc
-tree_at_end_sound [] (at_in left) inner tree e = absurd cc
-tree_at_end_sound [] (at_right left o) inner tree e = absurd cc
-tree_at_end_sound (frame ∷ outer) stage inner tree e = absurd cc
+tree_at_end_sound outer stage inner tree e = absurd cc
 
 read_tokens_sound : (state : ReaderState) (ts : List Token) (tree : Tree) → read_tokens state ts ≡ Some tree → tree_tokens tree [] ≡ state_tokens state ts
 unfolding read_tokens final_tree next_state

@@ -49,13 +49,7 @@ not_white (c ∷ text) b rest e = elim (cases_Bool (is_white c)) [
 
 operator_some : (o : Operator) → 1 ≤ length (operator_text o)
 operator_some operator.Equal = omega arith
-operator_some operator.NotEqual = omega arith
-operator_some operator.AtMost = omega arith
-operator_some operator.AtLeast = omega arith
-operator_some operator.Before = omega arith
-operator_some operator.After = omega arith
-operator_some operator.Compatible = omega arith
-operator_some operator.Arbitrary = omega arith
+operator_some o = omega arith
 
 word_some : (b : ℕ) (rest : List ℕ) → is_word_byte b ≡ true → 1 ≤ length (word_in (b ∷ rest))
 word_some b rest e = rw e (let at : take (1 + prefix_len is_word_byte rest) (b ∷ rest) ≡ b ∷ take (prefix_len is_word_byte rest) rest = (let n : 1 + prefix_len is_word_byte rest ≡ suc (prefix_len is_word_byte rest) = omega arith in rw n refl) in rw at (omega arith))

@@ -28,19 +28,15 @@ module _ (extra : Option (List ℕ)) (e f : EnvironmentValue) where
   Agree read = (k : Key) → read k ≡ true → AgreeAt k e f
 
   operand_agrees : (o : Operand) → Agree (λ k. has_key k (operand_keys o)) → operand_text extra e o ≡ operand_text extra f o
-  operand_agrees (Text text) agree = refl
   operand_agrees (Variable v) agree =
       ap (λ x. ok_or x (Unset v)) (agree (key.Of v) (or_left _ _ (eq-eqb (variable_number v) (variable_number v) refl)))
-  operand_agrees Extra agree = refl
-  operand_agrees Extras agree = refl
-  operand_agrees Groups agree = refl
+  operand_agrees o agree = refl
 
   in_agrees : (named : Bool) (x : List ℕ) (o : Operand) → Agree (λ k. has_key k (operand_keys o)) → is_in extra e named x o ≡ is_in extra f named x o
-  in_agrees named x (Text text) agree = refl
   in_agrees named x (Variable v) agree = ap (λ r. r >>= λ y. Ok (is_part named x y)) (operand_agrees (Variable v) agree)
-  in_agrees named x Extra agree = refl
   in_agrees named x Extras agree = ap (λ s. Ok (contains s (normal_name x))) (agree key.Extras refl)
   in_agrees named x Groups agree = ap (λ s. Ok (contains s (normal_name x))) (agree key.Groups refl)
+  in_agrees named x o agree = refl
 
   text_agrees : (named : Bool) (x : List ℕ) (c : Comparator) (o : Operand) → Agree (λ k. has_key k (operand_keys o))
       → value_against extra e named x c o ≡ value_against extra f named x c o

@@ -27,14 +27,9 @@ module _ (refused : EvalFault) (extra : Option (List ℕ)) (environment : Enviro
     (undefined : fault.Undefined ≡ refused → ⊥) (large : fault.NumberTooLarge ≡ refused → ⊥)
     (operand_never : (o : Operand) → Never refused (operand_text extra environment o)) where
   texts_never : (o : Operator) (x y : List ℕ) → Never refused (texts_value o x y)
-  texts_never operator.Equal x y = λ e. cc e
-  texts_never operator.NotEqual x y = λ e. cc e
-  texts_never operator.AtMost x y = λ e. cc e
-  texts_never operator.AtLeast x y = λ e. cc e
-  texts_never operator.Before x y = λ e. cc e
-  texts_never operator.After x y = λ e. cc e
   texts_never operator.Compatible x y = never_err refused fault.Undefined undefined
   texts_never operator.Arbitrary x y = never_err refused fault.Undefined undefined
+  texts_never o x y = λ e. cc e
 
   version_never : (v : Option Parts) (s : Option Specifier) (texts : Result Bool EvalFault) → Never refused texts → Never refused (version_value v s texts)
   version_never (Some v) (Some s) texts never =
@@ -46,12 +41,7 @@ module _ (refused : EvalFault) (extra : Option (List ℕ)) (environment : Enviro
   names_never : (o : Operator) (x y : List ℕ) → Never refused (names_value o x y)
   names_never operator.Equal x y = λ e. cc e
   names_never operator.NotEqual x y = λ e. cc e
-  names_never operator.AtMost x y = never_err refused fault.Undefined undefined
-  names_never operator.AtLeast x y = never_err refused fault.Undefined undefined
-  names_never operator.Before x y = never_err refused fault.Undefined undefined
-  names_never operator.After x y = never_err refused fault.Undefined undefined
-  names_never operator.Compatible x y = never_err refused fault.Undefined undefined
-  names_never operator.Arbitrary x y = never_err refused fault.Undefined undefined
+  names_never o x y = never_err refused fault.Undefined undefined
 
   by_never : (named : Bool) (o : Operator) (x y : List ℕ) → Never refused (by_value named o x y)
   by_never false o x y = version_never (version_of x) (operand_of o y) (texts_value o x y) (texts_never o x y)
@@ -100,11 +90,8 @@ module _ (refused : EvalFault) (extra : Option (List ℕ)) (environment : Enviro
 -- ---- `extra`, where it has a text
 
 operand_given : (extra : List ℕ) (environment : EnvironmentValue) (o : Operand) → Never fault.Extra (operand_text (Some extra) environment o)
-operand_given extra environment (Text text) = λ e. cc e
 operand_given extra environment (Variable v) = never_or fault.Extra (fault.Unset v) (variable_in v environment) (λ e. cc e)
-operand_given extra environment Extra = λ e. cc e
-operand_given extra environment Extras = λ e. cc e
-operand_given extra environment Groups = λ e. cc e
+operand_given extra environment o = λ e. cc e
 
 extra_is_given : (extra : List ℕ) (environment : EnvironmentValue) (t : Tree) → Never fault.Extra (value_with (Some extra) environment t)
 extra_is_given extra environment t = value_never fault.Extra (Some extra) environment (λ e. cc e) (λ e. cc e) (operand_given extra environment) t

@@ -1,5 +1,6 @@
 -- A text stands in another where that is something before it, itself, and something behind it.
 use Rattle.std.proofs.Common.{◌≡◌, ℕ, zero, suc, ◌+◌, ◌<◌, ◌≤◌, arith, inl, inr, get_or, Bool, true, false, ◌&&◌, ◌||◌, List, [], ◌∷◌, ◌++◌, length, take, drop, nat_eq, ◌∙◌, ap, refl, sym, subst}
+use Rattle.pyver_core.proofs.Lemmas.Set.Reading.Sound.{begins_sound}
 use Rattle.std.proofs.lemmas.List.{get_or-drop, get_or_append_left, length-append, take-append-drop}
 use Rattle.std.proofs.lemmas.Slice.Eq.{bytes_eq-Decides}
 use Rattle.std.proofs.Math.Bool.{or-true}
@@ -11,19 +12,15 @@ use Rattle.std.specs.Str.Iter.{HasSubslice}
 use Rattle.pymark_core.specs.Inner.Passed.{BeginsNowhere}
 use Rattle.pymark_core.specs.Marker.Value.{is_substring}
 
-at_front : (s x : List ℕ) → starts_with nat_eq s x ≡ true → s ≡ x ++ drop (length x) s
-at_front s x is =
-    sym (take-append-drop (length x) s) ∙ ap (λ t. t ++ drop (length x) s) (sym ((bytes_eq-Decides x (take (length x) s)).0 is))
-
 -- one more item before
 before : (b : ℕ) (s x : List ℕ) → HasSubslice s x → HasSubslice (b ∷ s) x
 before b s x found = (b ∷ found.0, found.1, ap (λ t. b ∷ t) found.2)
 
 pub found_in : (x y : List ℕ) → is_substring x y ≡ true → HasSubslice y x
-found_in x [] is = ([], drop (length x) [], at_front [] x is)
+found_in x [] is = ([], drop (length x) [], begins_sound [] x is)
 found_in x (b ∷ rest) is =
     elim (starts_with nat_eq (b ∷ rest) x) as (λ t. starts_with nat_eq (b ∷ rest) x ≡ t → (t || is_substring x rest) ≡ true → HasSubslice (b ∷ rest) x) [
-      | true ↦ λ front _. ([], drop (length x) (b ∷ rest), at_front (b ∷ rest) x front)
+      | true ↦ λ front _. ([], drop (length x) (b ∷ rest), begins_sound (b ∷ rest) x front)
       | false ↦ λ _ later. before b rest x (found_in x rest later)
     ] refl is
 
@@ -66,7 +63,7 @@ pub begins_otherwise : (x s : List ℕ) (k : ℕ) → k < length x → (get_or s
 begins_otherwise x s k below apart =
     elim (starts_with nat_eq s x) as (λ t. starts_with nat_eq s x ≡ t → t ≡ false) [
       | true ↦ λ is.
-          let same : get_or s k 0 ≡ get_or x k 0 = ap (λ l. get_or l k 0) (at_front s x is) ∙ get_or_append_left x (drop (length x) s) 0 k below in
+          let same : get_or s k 0 ≡ get_or x k 0 = ap (λ l. get_or l k 0) (begins_sound s x is) ∙ get_or_append_left x (drop (length x) s) 0 k below in
           absurd (apart same)
       | false ↦ λ _. refl
     ] refl

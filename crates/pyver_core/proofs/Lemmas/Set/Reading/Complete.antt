@@ -25,7 +25,7 @@ use Rattle.pyver_core.proofs.Lemmas.Version.Reading.Complete.Whole.{base_complet
 use Rattle.pyver_core.proofs.Lemmas.Version.Reading.FirstBytes.{all_white_begins, begins_not, whites}
 use Rattle.pyver_core.proofs.Lemmas.Set.Reading.Sound.{prefix_of_sound}
 use Rattle.pytext.proofs.OptionsLemmas.{option_cases}
-use Rattle.std.proofs.lemmas.Bool.{cases_Bool}
+use Rattle.std.proofs.lemmas.Bool.{and_right, cases_Bool}
 
 -- ---- operators
 
@@ -43,24 +43,14 @@ lacks_longer o other rest longest longer = elim (cases_Bool (starts_with nat_eq 
 
 operator_complete : (o : Operator) (rest : List ℕ) → IsLongest o rest → operator_at (operator_text o ++ rest) ≡ Some (o, rest)
 unfolding operator_at
-operator_complete operator.Arbitrary rest longest = refl
-operator_complete operator.Compatible rest longest = refl
 operator_complete operator.Equal rest longest = rw (lacks_longer operator.Equal operator.Arbitrary rest longest (omega arith)) refl
-operator_complete operator.NotEqual rest longest = refl
-operator_complete operator.AtMost rest longest = refl
-operator_complete operator.AtLeast rest longest = refl
 operator_complete operator.Before rest longest = rw (lacks_longer operator.Before operator.AtMost rest longest (omega arith)) refl
 operator_complete operator.After rest longest = rw (lacks_longer operator.After operator.AtLeast rest longest (omega arith)) refl
+operator_complete o rest longest = refl
 
 operator_not_white : (o : Operator) (rest : List ℕ) → (starts is_white (operator_text o ++ rest) ≡ false) × (list_all is_white (operator_text o ++ rest) ≡ false)
 operator_not_white operator.Arbitrary rest = (refl, refl)
-operator_not_white operator.Compatible rest = (refl, refl)
-operator_not_white operator.Equal rest = (refl, refl)
-operator_not_white operator.NotEqual rest = (refl, refl)
-operator_not_white operator.AtMost rest = (refl, refl)
-operator_not_white operator.AtLeast rest = (refl, refl)
-operator_not_white operator.Before rest = (refl, refl)
-operator_not_white operator.After rest = (refl, refl)
+operator_not_white o rest = (refl, refl)
 
 -- ---- operands
 
@@ -149,15 +139,11 @@ specifier_complete piece s is =
     ∙ after_white_exact is.before (operator_text o ++ is.operand) is.is_before (operator_not_white o is.operand).0 in
     rw (white, operator_complete o is.operand is.longest, operand_complete s is.operand is.is_operand) refl
 
-and_false : (a b : Bool) → b ≡ false → (a && b) ≡ false
-and_false true b e = e
-and_false false b e = refl
-
 not_blank : (piece : List ℕ) (s : Specifier) → IsSpecifier piece s → list_all is_white piece ≡ false
 not_blank piece s is =
     let rest = operator_text (operator_of s) ++ is.operand in
     ap (list_all is_white) is.whole ∙ list_all-append is_white is.before rest
-    ∙ and_false (list_all is_white is.before) (list_all is_white rest)
+    ∙ and_right (list_all is_white is.before) (list_all is_white rest)
     (operator_not_white (operator_of s) is.operand).1
 
 pieces_complete : (pieces : List (List ℕ)) (specifiers : List Specifier) → ArePieces pieces specifiers → specifiers_of pieces ≡ Some specifiers

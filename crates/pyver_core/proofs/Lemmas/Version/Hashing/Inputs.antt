@@ -11,8 +11,7 @@ use Rattle.pyver_core.specs.declared.version.part.PreKind.TheVariants.{A, B, Rc}
 
 hash_input-letter : (letter : PreKind) → letters.ghosts.hash_input letter ≡ letter_input letter
 hash_input-letter A = refl
-hash_input-letter B = refl
-hash_input-letter Rc = refl
+hash_input-letter letter = refl
 
 pub hash_input-pre : (pre : PreKind × ℕ) → letters.ghosts.hash_input pre.0 ++ fed.u128 pre.1 ≡ pre_input pre
 hash_input-pre pre = ap (λ writes. writes ++ fed.u128 pre.1) (hash_input-letter pre.0)

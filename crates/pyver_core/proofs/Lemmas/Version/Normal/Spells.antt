@@ -72,8 +72,7 @@ kind_text_spells Rc = word_rc
 
 kind_text-lower : (kind : PreKind) → str_to_ascii_lowercase (kind_text kind) ≡ kind_text kind
 kind_text-lower A = refl
-kind_text-lower B = refl
-kind_text-lower Rc = refl
+kind_text-lower kind = refl
 
 pre_spelt : (o : Option (PreKind × ℕ)) (next : List ℕ) → IsPre (pre_text o) o next
 pre_spelt None next = refl

@@ -20,5 +20,4 @@ then_each_in_turn Greater (next ∷ rest) = then_each_in_turn Greater rest
 
 pub then_assoc : (a b c : Ordering) → ordering_then (ordering_then a b) c ≡ ordering_then a (ordering_then b c)
 then_assoc Less b c = refl
-then_assoc Equal b c = refl
-then_assoc Greater b c = refl
+then_assoc a b c = refl

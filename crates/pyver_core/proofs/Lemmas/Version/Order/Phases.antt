@@ -5,15 +5,11 @@ use Rattle.pyver_core.specs.Inner.Phase.{number_of, phase_of, rank_of}
 use Rattle.pyver_core.specs.declared.version.part.PreKind.{PreKind}
 
 pub rank_is : (pre : Option (PreKind × ℕ)) (post dev : Option ℕ) → rank_of (phase_of pre post dev) ≡ phase_rank pre post dev
-rank_is None None None = refl
 rank_is None None (Some d) = refl
-rank_is None (Some n) dev = refl
-rank_is (Some pre) post dev = refl
+rank_is pre post dev = refl
 
 pub number_is : (pre : Option (PreKind × ℕ)) (post dev : Option ℕ) → number_of (phase_of pre post dev) ≡ phase_number pre
-number_is None None None = refl
 number_is None None (Some d) = refl
-number_is None (Some n) dev = refl
-number_is (Some pre) post dev = refl
+number_is pre post dev = refl
 
 pub ruleset phases = (rank_is, number_is)

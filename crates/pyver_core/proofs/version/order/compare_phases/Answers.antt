@@ -10,31 +10,10 @@ use Rattle.pyver_core.proofs.version.order.compare_phases.Goals as goal
 
 -- the derived order goes by the rank and then by the number
 derived_cmp : (p q : Phase) → cmp-value.it p q ≡ ordering_then (nat_cmp (rank_of p) (rank_of q)) (nat_cmp (number_of p) (number_of q))
-derived_cmp Developmental Developmental = refl
 derived_cmp Developmental (Pre A n) = refl
-derived_cmp Developmental (Pre B n) = refl
-derived_cmp Developmental (Pre Rc n) = refl
-derived_cmp Developmental Final = refl
-derived_cmp (Pre A m) Developmental = refl
 derived_cmp (Pre A m) (Pre A n) = refl
-derived_cmp (Pre A m) (Pre B n) = refl
-derived_cmp (Pre A m) (Pre Rc n) = refl
-derived_cmp (Pre A m) Final = refl
-derived_cmp (Pre B m) Developmental = refl
-derived_cmp (Pre B m) (Pre A n) = refl
-derived_cmp (Pre B m) (Pre B n) = refl
-derived_cmp (Pre B m) (Pre Rc n) = refl
-derived_cmp (Pre B m) Final = refl
-derived_cmp (Pre Rc m) Developmental = refl
-derived_cmp (Pre Rc m) (Pre A n) = refl
-derived_cmp (Pre Rc m) (Pre B n) = refl
-derived_cmp (Pre Rc m) (Pre Rc n) = refl
-derived_cmp (Pre Rc m) Final = refl
-derived_cmp Final Developmental = refl
-derived_cmp Final (Pre A n) = refl
-derived_cmp Final (Pre B n) = refl
-derived_cmp Final (Pre Rc n) = refl
-derived_cmp Final Final = refl
+derived_cmp p (Pre A n) = refl
+derived_cmp p q = refl
 
 pub returns : goal.returns
 returns c =

@@ -13,9 +13,8 @@ use Rattle.pyver_core.proofs.version.order.compare_tails.Goals as goal
 -- the derived order of segments is that of the definition
 derived_cmp : (a b : LocalPart) → cmp-value.it a b ≡ segment_cmp a b
 derived_cmp (Number m) (Number n) = refl
-derived_cmp (Number m) (Text b) = refl
 derived_cmp (Text a) (Number n) = refl
-derived_cmp (Text a) (Text b) = refl
+derived_cmp a b = refl
 
 pub returns : goal.returns
 unfolding tail_cmp

@@ -122,8 +122,7 @@ dev_apart piece (Some n) next is begins =
 
 post_lettered : {word : List ℕ} → IsPostWord word → IsLettered word
 post_lettered word_post = refl
-post_lettered word_rev = refl
-post_lettered word_r = refl
+post_lettered is = refl
 
 tagged_post_complete : (word piece : List ℕ) (n : ℕ) (next : List ℕ) → IsPostWord word → IsTagged word piece n next → begins_in follow_post next ≡ true → tagged_post_at (piece ++ next) ≡ Some (n, next)
 unfolding tagged_post_at
@@ -198,13 +197,7 @@ post_apart piece (Some n) next (inr is) begins apart = (pre_none (piece ++ next)
 
 pre_lettered : {word : List ℕ} {kind : PreKind} → IsPreWord word kind → IsLettered word
 pre_lettered word_a = refl
-pre_lettered word_alpha = refl
-pre_lettered word_b = refl
-pre_lettered word_beta = refl
-pre_lettered word_c = refl
-pre_lettered word_rc = refl
-pre_lettered word_pre = refl
-pre_lettered word_preview = refl
+pre_lettered is = refl
 
 tagged_pre_complete : (word piece : List ℕ) (kind : PreKind) (n : ℕ) (next : List ℕ) → IsPreWord word kind → IsTagged word piece n next → begins_in follow_pre next ≡ true → tagged_pre_at (piece ++ next) ≡ Some ((kind, n), next)
 unfolding tagged_pre_at
