@@ -588,10 +588,10 @@ static const char *const names_of_parts[PARTS] = {"epoch", "release", "pre", "po
 
 enum { LONGEST_MADE = 256 };
 
-/* A normal form that is written, and where in it the base ends. */
+/* A text that is written of parts. */
 typedef struct {
     char text[LONGEST_MADE];
-    size_t length, base;
+    size_t length;
 } Made;
 
 static bool add_letters(Made *made, const char *letters, size_t length)
@@ -656,34 +656,26 @@ static bool made_of_parts(PyObject *const *parts, Made *made)
     made->length = 0;
     bool has_epoch = !PyLong_CheckExact(parts[EPOCH]) || PyObject_IsTrue(parts[EPOCH]) != 0;
     if (has_epoch && !(add_number(made, "", parts[EPOCH]) && add_letters(made, "!", 1))) return false;
-    if (!add_release(made, parts[RELEASE])) return false;
-    made->base = made->length;
-    return (parts[PRE] == Py_None || add_pre(made, parts[PRE])) && (parts[POST] == Py_None || add_number(made, ".post", parts[POST])) &&
+    return add_release(made, parts[RELEASE]) && (parts[PRE] == Py_None || add_pre(made, parts[PRE])) &&
+           (parts[POST] == Py_None || add_number(made, ".post", parts[POST])) &&
            (parts[DEV] == Py_None || add_number(made, ".dev", parts[DEV])) && (parts[LOCAL] == Py_None || add_local(made, parts[LOCAL]));
 }
 
-/* The version of a text that was written of these parts, where it is a normal form and so has these: without its key where they
- * are known to be a version's, and else where the library finds it to be one. NULL, maybe without an exception, of others. */
-static PyObject *version_of_made(State *state, PyTypeObject *type, PyObject *const *given, const Made *made, bool are_known)
+/* The version of a text that was written of parts, as the library reads it, which finds whether that is a normal form and so has
+ * these parts. NULL, maybe without an exception, of others. */
+static PyObject *version_of_made(State *state, const Made *made)
 {
-    pylock_version_kind kind = {.is_prerelease = given[PRE] != Py_None || given[DEV] != Py_None, .is_normal = are_known};
     PyObject *text = PyUnicode_DecodeLatin1(made->text, (Py_ssize_t)made->length, NULL);
-    Version *version = text == NULL ? NULL : empty_version(state, type);
+    Version *version = text == NULL ? NULL : empty_version(state, state->version_class);
     Text view = {(const uint8_t *)made->text, made->length, NULL};
-    if (version != NULL && (are_known || find_key(version, &view, &kind) == PYLOCK_OK) && kind.is_normal) {
-        Parts parts = {hold(given[EPOCH]), hold(given[RELEASE]), hold(given[PRE]), hold(given[POST]), hold(given[DEV]), hold(given[LOCAL]), made->base};
-        version->text = hold(text);
-        version->is_normal = true;
-        set_parts(version, &parts, kind.is_prerelease);
-    } else
-        Py_CLEAR(version);
+    int32_t code;
+    if (version != NULL && !(find_whole(version, text, &view, &code) && version->is_normal)) Py_CLEAR(version);
     Py_XDECREF(text);
     return (PyObject *)version;
 }
 
-/* Puts the parts that are given by their names in their places: false where one has another name. `are_known` becomes false
- * where a local part is given, which isn't known to be one as numbers are. */
-static bool take_parts(PyObject *const *values, PyObject *names, PyObject **parts, bool *are_known)
+/* Puts the parts that are given by their names in their places: false where one has another name. */
+static bool take_parts(PyObject *const *values, PyObject *names, PyObject **parts)
 {
     Py_ssize_t count = names == NULL ? 0 : PyTuple_Size(names);
     for (Py_ssize_t index = 0; index < count; index++) {
@@ -691,7 +683,6 @@ static bool take_parts(PyObject *const *values, PyObject *names, PyObject **part
         while (place < PARTS && PyUnicode_CompareWithASCIIString(PyTuple_GetItem(names, index), names_of_parts[place]) != 0) place++;
         if (place == PARTS) return false;
         parts[place] = values[index];
-        *are_known = *are_known && (place != LOCAL || values[index] == Py_None);
     }
     return true;
 }
@@ -722,9 +713,9 @@ static PyObject *from_parts(PyObject *self, PyObject *const *arguments, Py_ssize
     if (state == NULL) return NULL;
     PyObject *zero = PyLong_FromLong(0), *version = NULL;
     PyObject *parts[PARTS] = {zero, NULL, Py_None, Py_None, Py_None, Py_None};
-    bool are_known = true, is_plain = self == (PyObject *)state->version_class && count == 0;
-    if (is_plain && take_parts(arguments, names, parts, &are_known) && parts[RELEASE] != NULL && made_of_parts(parts, &made))
-        version = version_of_made(state, (PyTypeObject *)self, parts, &made, are_known);
+    bool is_plain = self == (PyObject *)state->version_class && count == 0;
+    if (is_plain && take_parts(arguments, names, parts) && parts[RELEASE] != NULL && made_of_parts(parts, &made))
+        version = version_of_made(state, &made);
     Py_XDECREF(zero);
     if (version != NULL || PyErr_Occurred()) return version;
     return asked_of_layer("from_parts", self, arguments, count, names);
@@ -762,11 +753,11 @@ static PyObject *version_replace(PyObject *self, PyObject *const *arguments, Py_
     State *state = version->state;
     Made made;
     PyObject *parts[PARTS] = {version->epoch, version->release, version->pre, version->post, version->dev, version->local};
-    bool are_known = true, is_plain = Py_TYPE(self) == state->version_class && version->release != NULL && count == 0;
-    if (is_plain && take_parts(arguments, names, parts, &are_known) && made_of_parts(parts, &made)) {
+    bool is_plain = Py_TYPE(self) == state->version_class && version->release != NULL && count == 0;
+    if (is_plain && take_parts(arguments, names, parts) && made_of_parts(parts, &made)) {
         int is_same = has_such_parts(version, parts) ? is_its_text(self, &made) : 0;
         if (is_same != 0) return is_same < 0 ? NULL : hold(self);
-        PyObject *other = version_of_made(state, Py_TYPE(self), parts, &made, are_known);
+        PyObject *other = version_of_made(state, &made);
         if (other != NULL || PyErr_Occurred()) return other;
     }
     return PyErr_Occurred() ? NULL : asked_of_layer("replaced", self, arguments, count, names);
