@@ -164,28 +164,35 @@ static int32_t without_zeros(const uint8_t *text, size_t length, uint8_t *out, s
 }
 
 /* The local part stands behind its sign at the end of the normal form. */
-static PyObject *local_of(const Text *text, size_t public_end)
+static PyObject *local_in(const uint8_t *normal, size_t length, size_t public_end)
+{
+    return public_end == length ? hold(Py_None) : str_of(normal + public_end + 1, length - public_end - 1);
+}
+
+static PyObject *local_of(const Text *text, bool is_normal, size_t public_end)
 {
     Result normal;
     PyObject *local = NULL;
+    if (is_normal) return local_in(text->bytes, text->length, public_end);
+    if (memchr(text->bytes, '+', text->length) == NULL) return hold(Py_None);
     int32_t code = result_of_text(with_zeros, text, &normal);
     if (code != PYLOCK_OK)
         PyErr_NoMemory();
     else
-        local = public_end == normal.length ? hold(Py_None) : str_of(normal.bytes + public_end + 1, normal.length - public_end - 1);
+        local = local_in(normal.bytes, normal.length, public_end);
     result_done(&normal);
     return local;
 }
 
-/* Python's own of the library's parts: false with an exception. */
-static bool made_parts(const pylock_version_parts *read, const uint64_t *words, size_t count, const Text *text, Parts *parts)
+/* Python's own of the library's parts of a text, which is the normal form or isn't: false with an exception. */
+static bool made_parts(const pylock_version_parts *read, const uint64_t *words, size_t count, const Text *text, bool is_normal, Parts *parts)
 {
     parts->base = read->base;
     if ((parts->epoch = number_of(read->epoch_low, read->epoch_high)) != NULL && (parts->release = release_of(words, count)) != NULL &&
         (parts->pre = prerelease_of(read)) != NULL &&
         (parts->post = number_or_none(read->has_post, read->post_low, read->post_high)) != NULL &&
         (parts->dev = number_or_none(read->has_dev, read->dev_low, read->dev_high)) != NULL &&
-        (parts->local = memchr(text->bytes, '+', text->length) == NULL ? hold(Py_None) : local_of(text, read->public_end)) != NULL)
+        (parts->local = local_of(text, is_normal, read->public_end)) != NULL)
         return true;
     let_parts_go(parts);
     return false;
@@ -269,7 +276,7 @@ static bool find_whole(Version *version, PyObject *text, const Text *view, int32
     Whole whole;
     Parts parts = {.epoch = NULL};
     *code = read_whole(view, &whole);
-    bool is_good = *code == PYLOCK_OK && made_parts(&whole.parts, whole.words, whole.count, view, &parts);
+    bool is_good = *code == PYLOCK_OK && made_parts(&whole.parts, whole.words, whole.count, view, whole.kind.is_normal, &parts);
     /* finalizers may have run meanwhile; from here on nothing does but the library */
     is_good = is_good && version->text == NULL;
     if (is_good && !keep_key(version, whole.key, whole.key_length)) {
@@ -323,7 +330,7 @@ static bool set_normal_text(Version *version, PyObject *text, const Text *view)
     size_t count = 0;
     Parts parts = {.epoch = NULL};
     int32_t code = pylock_version_split(view->bytes, view->length, &read, words, RELEASE_ROOM * WORDS_OF_NUMBER, &count);
-    if (code != PYLOCK_OK || !made_parts(&read, words, count, view, &parts)) return false;
+    if (code != PYLOCK_OK || !made_parts(&read, words, count, view, true, &parts)) return false;
     version->text = hold(text);
     version->is_normal = true;
     set_parts(version, &parts, read.pre != 0 || read.has_dev);
@@ -582,9 +589,31 @@ static PyObject *get_given(PyObject *self, void *closure)
 
 /* ---- versions of parts ---- */
 
+typedef struct {
+    const char *letters;
+    size_t length;
+} Word;
+
+#define WORD(letters) {letters, sizeof letters - 1}
+
 /* The places of the parts, in the order in which they are told, and their names. */
 enum { EPOCH, RELEASE, PRE, POST, DEV, LOCAL, PARTS };
-static const char *const names_of_parts[PARTS] = {"epoch", "release", "pre", "post", "dev", "local"};
+static const Word names_of_parts[PARTS] = {WORD("epoch"), WORD("release"), WORD("pre"), WORD("post"), WORD("dev"), WORD("local")};
+
+/* The letters of pre-releases. */
+enum { PRES = 3 };
+static const Word letters_of_pre[PRES] = {WORD("a"), WORD("b"), WORD("rc")};
+
+/* Which of the words a text is: as many as there are where it is none, or with an exception. */
+static int place_of_word(PyObject *text, const Word *words, int count)
+{
+    Text view;
+    int place = 0;
+    if (!text_of(text, &view)) return count;
+    while (place < count && (words[place].length != view.length || memcmp(words[place].letters, view.bytes, view.length) != 0)) place++;
+    text_done(&view);
+    return place;
+}
 
 enum { LONGEST_MADE = 256 };
 
@@ -602,8 +631,8 @@ static bool add_letters(Made *made, const char *letters, size_t length)
     return true;
 }
 
-/* Writes letters and a number behind them, which is an exact int and not a great one. */
-static bool add_number(Made *made, const char *letters, PyObject *number)
+/* Writes a number, which is an exact int and not a great one. */
+static bool add_number(Made *made, PyObject *number)
 {
     char digits[MOST_OF_DIGITS], *end = digits + sizeof digits;
     if (!PyLong_CheckExact(number)) return false;
@@ -613,25 +642,24 @@ static bool add_number(Made *made, const char *letters, PyObject *number)
         return false;
     }
     char *begin = digits_before(end, (uint64_t)value);
-    return add_letters(made, letters, strlen(letters)) && add_letters(made, begin, (size_t)(end - begin));
+    return add_letters(made, begin, (size_t)(end - begin));
 }
 
 static bool add_release(Made *made, PyObject *release)
 {
     if (!PyTuple_CheckExact(release) || PyTuple_Size(release) == 0) return false;
-    for (Py_ssize_t index = 0; index < PyTuple_Size(release); index++)
-        if (!add_number(made, index == 0 ? "" : ".", PyTuple_GetItem(release, index))) return false;
+    Py_ssize_t count = PyTuple_Size(release);
+    for (Py_ssize_t index = 0; index < count; index++)
+        if ((index > 0 && !add_letters(made, ".", 1)) || !add_number(made, PyTuple_GetItem(release, index))) return false;
     return true;
 }
 
 static bool add_pre(Made *made, PyObject *pre)
 {
-    static const char *const letters[] = {"a", "b", "rc"};
     if (!PyTuple_CheckExact(pre) || PyTuple_Size(pre) != 2 || !PyUnicode_CheckExact(PyTuple_GetItem(pre, 0))) return false;
-    for (size_t index = 0; index < sizeof letters / sizeof *letters; index++)
-        if (PyUnicode_CompareWithASCIIString(PyTuple_GetItem(pre, 0), letters[index]) == 0)
-            return add_number(made, letters[index], PyTuple_GetItem(pre, 1));
-    return false;
+    int place = place_of_word(PyTuple_GetItem(pre, 0), letters_of_pre, PRES);
+    return place < PRES && add_letters(made, letters_of_pre[place].letters, letters_of_pre[place].length) &&
+           add_number(made, PyTuple_GetItem(pre, 1));
 }
 
 /* Writes a local part of small letters, digits and dots. */
@@ -655,10 +683,11 @@ static bool made_of_parts(PyObject *const *parts, Made *made)
 {
     made->length = 0;
     bool has_epoch = !PyLong_CheckExact(parts[EPOCH]) || PyObject_IsTrue(parts[EPOCH]) != 0;
-    if (has_epoch && !(add_number(made, "", parts[EPOCH]) && add_letters(made, "!", 1))) return false;
-    return add_release(made, parts[RELEASE]) && (parts[PRE] == Py_None || add_pre(made, parts[PRE])) &&
-           (parts[POST] == Py_None || add_number(made, ".post", parts[POST])) &&
-           (parts[DEV] == Py_None || add_number(made, ".dev", parts[DEV])) && (parts[LOCAL] == Py_None || add_local(made, parts[LOCAL]));
+    return (!has_epoch || (add_number(made, parts[EPOCH]) && add_letters(made, "!", 1))) && add_release(made, parts[RELEASE]) &&
+           (parts[PRE] == Py_None || add_pre(made, parts[PRE])) &&
+           (parts[POST] == Py_None || (add_letters(made, ".post", 5) && add_number(made, parts[POST]))) &&
+           (parts[DEV] == Py_None || (add_letters(made, ".dev", 4) && add_number(made, parts[DEV]))) &&
+           (parts[LOCAL] == Py_None || add_local(made, parts[LOCAL]));
 }
 
 /* The version of a text that was written of parts, as the library reads it, which finds whether that is a normal form and so has
@@ -679,8 +708,7 @@ static bool take_parts(PyObject *const *values, PyObject *names, PyObject **part
 {
     Py_ssize_t count = names == NULL ? 0 : PyTuple_Size(names);
     for (Py_ssize_t index = 0; index < count; index++) {
-        int place = 0;
-        while (place < PARTS && PyUnicode_CompareWithASCIIString(PyTuple_GetItem(names, index), names_of_parts[place]) != 0) place++;
+        int place = place_of_word(PyTuple_GetItem(names, index), names_of_parts, PARTS);
         if (place == PARTS) return false;
         parts[place] = values[index];
     }
