@@ -4,63 +4,25 @@
 
 /* ---- names ---- */
 
-/* The normal form of a short text in ASCII, which is most names: as the library has it, which the tests compare, without the
- * time that a call of it takes. False where the text is another. */
-static bool plain_normal(const Text *text, Result *result)
-{
-    bool is_run = false;
-    uint8_t *at = result->near;
-    if (text->length > RESULT_ROOM) return false;
-    for (size_t place = 0; place < text->length; place++) {
-        uint8_t letter = text->bytes[place];
-        if (letter >= 0x80) return false;
-        bool is_sign = letter == '-' || letter == '_' || letter == '.';
-        if (!is_sign)
-            *at++ = letter >= 'A' && letter <= 'Z' ? letter + ('a' - 'A') : letter;
-        else if (!is_run)
-            *at++ = '-';
-        is_run = is_sign;
-    }
-    result->length = (size_t)(at - result->near);
-    return true;
-}
-
 /* The library's normal form, in which letters that aren't ASCII become lower case as str.lower has it. */
-static PyObject *normal_of_library(State *state, PyObject *text, const Text *view)
-{
-    Result result;
-    int32_t code = result_of_text(pylock_name, view, &result);
-    PyObject *normal = NULL, *small = NULL;
-    if (code == PYLOCK_OK)
-        normal = str_of(result.bytes, result.length);
-    else
-        raise_refusal(state, code, text, "name");
-    result_done(&result);
-    if (normal != NULL) small = PyObject_CallMethod(normal, "lower", NULL);
-    Py_XDECREF(normal);
-    return small;
-}
-
 PyObject *normal_name(State *state, PyObject *text)
 {
     Text view;
     Result result;
     if (!text_of(text, &view)) return NULL;
-    result.bytes = result.near;
-    bool is_plain = plain_normal(&view, &result);
-    PyObject *normal = is_plain ? str_of_result(&result, text, &view) : normal_of_library(state, text, &view);
+    int32_t code = result_of_text(pylock_name, &view, &result);
+    bool is_ascii = view.length == (size_t)PyUnicode_GetLength(text);
+    PyObject *normal = NULL, *small = NULL;
+    if (code == PYLOCK_OK)
+        normal = str_of_result(&result, text, &view);
+    else
+        raise_refusal(state, code, text, "name");
+    result_done(&result);
     text_done(&view);
-    return normal;
-}
-
-/* The library's normal form alone, for the tests. */
-static PyObject *library_name(PyObject *module, PyObject *text)
-{
-    Text view;
-    if (!text_of(text, &view)) return NULL;
-    PyObject *normal = normal_of_library(state_of(module), text, &view);
-    text_done(&view);
-    return normal;
+    if (normal == NULL || is_ascii) return normal;
+    small = PyObject_CallMethod(normal, "lower", NULL);
+    Py_DECREF(normal);
+    return small;
 }
 
 /* 1 or 0, or -1 with an exception. A text with half a character is no name. */
@@ -97,29 +59,34 @@ static PyObject *canonicalize_name(PyObject *module, PyObject *const *arguments,
 }
 TAKES_NAMES(canonicalize_name)
 
-/* 0 where the text isn't the normal form of a short text in ASCII, and else 1, or -1 with an exception. */
-static int maybe_normal(PyObject *text)
+/* Whether a text is a name and its own normal form: 1 or 0, or -1 with an exception. */
+static int told_normal(State *state, PyObject *text)
 {
     Text view;
     Result result;
+    bool is_name = false;
+    int told = 0;
     if (!text_of(text, &view)) return -1;
-    bool is_other = plain_normal(&view, &result) && (result.length != view.length || memcmp(result.near, view.bytes, view.length) != 0);
+    if (pylock_is_name(view.bytes, view.length, &is_name) == PYLOCK_OK && is_name) {
+        int32_t code = result_of_text(pylock_name, &view, &result);
+        if (code == PYLOCK_OK)
+            told = is_as_written(&result, &view);
+        else {
+            raise_refusal(state, code, text, "name");
+            told = -1;
+        }
+        result_done(&result);
+    }
     text_done(&view);
-    return !is_other;
+    return told;
 }
 
 static PyObject *is_normalized_name(PyObject *module, PyObject *const *arguments, Py_ssize_t count, PyObject *names)
 {
     static const Signature signature = {"is_normalized_name", "name", NULL};
     PyObject *text = one_and_flag(&signature, arguments, count, names, NULL);
-    int told = text == NULL ? -1 : maybe_normal(text);
-    if (told > 0) told = told_name(text);
-    if (told <= 0) return told < 0 ? NULL : PyBool_FromLong(0);
-    PyObject *normal = normal_name(state_of(module), text);
-    if (normal == NULL) return NULL;
-    bool is_normal = normal == text || PyUnicode_Compare(normal, text) == 0;
-    Py_DECREF(normal);
-    return PyErr_Occurred() ? NULL : PyBool_FromLong(is_normal);
+    int told = text == NULL ? -1 : told_normal(state_of(module), text);
+    return told < 0 ? NULL : PyBool_FromLong(told);
 }
 TAKES_NAMES(is_normalized_name)
 
@@ -425,7 +392,6 @@ TAKES_NAMES(parse_sdist_filename)
 
 static PyMethodDef name_functions[] = {
     CALL_NAMED("canonicalize_name", canonicalize_name, "canonicalize_name($module, name, *, validate=False)\n--\n\nThe normal form of a text as a name (PEP 503); with `validate` a text that is no name is refused."),
-    {"library_name", library_name, METH_O, PyDoc_STR("The normal form of a text as a name, by the library (pylock_name).")},
     {"is_name", is_name, METH_O, PyDoc_STR("Whether the text is a name (PEP 508).")},
     CALL_NAMED("is_normalized_name", is_normalized_name, "is_normalized_name($module, name)\n--\n\nWhether the text is a name in normal form."),
     {"requirement", requirement, METH_O, PyDoc_STR("The fields of a requirement (pylock_requirement).")},

@@ -296,6 +296,8 @@ int32_t result_of_text(TextCall call, const Text *text, Result *result);
 /* What a kept text has. It is empty then. */
 int32_t result_of_kept(pylock_text *kept, Result *result);
 void result_done(Result *result);
+/* Whether the result is the text of the view. */
+bool is_as_written(const Result *result, const Text *view);
 /* The result as a str: the text of the view itself where it is the same. */
 PyObject *str_of_result(const Result *result, PyObject *text, const Text *view);
 

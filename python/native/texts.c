@@ -110,10 +110,14 @@ PyObject *str_with_halves(const uint8_t *bytes, size_t length)
     return PyUnicode_DecodeUTF8((const char *)bytes, (Py_ssize_t)length, "surrogatepass");
 }
 
+bool is_as_written(const Result *result, const Text *view)
+{
+    return result->length == view->length && memcmp(result->bytes, view->bytes, view->length) == 0;
+}
+
 PyObject *str_of_result(const Result *result, PyObject *text, const Text *view)
 {
-    bool is_same = result->length == view->length && memcmp(result->bytes, view->bytes, view->length) == 0;
-    return is_same ? exact_text(text) : str_of(result->bytes, result->length);
+    return is_as_written(result, view) ? exact_text(text) : str_of(result->bytes, result->length);
 }
 
 PyObject *str_of_kept(pylock_text *kept)

@@ -164,28 +164,35 @@ static int32_t without_zeros(const uint8_t *text, size_t length, uint8_t *out, s
 }
 
 /* The local part stands behind its sign at the end of the normal form. */
-static PyObject *local_of(const Text *text, size_t public_end)
+static PyObject *local_in(const uint8_t *normal, size_t length, size_t public_end)
+{
+    return public_end == length ? hold(Py_None) : str_of(normal + public_end + 1, length - public_end - 1);
+}
+
+static PyObject *local_of(const Text *text, bool is_normal, size_t public_end)
 {
     Result normal;
     PyObject *local = NULL;
+    if (is_normal) return local_in(text->bytes, text->length, public_end);
+    if (memchr(text->bytes, '+', text->length) == NULL) return hold(Py_None);
     int32_t code = result_of_text(with_zeros, text, &normal);
     if (code != PYLOCK_OK)
         PyErr_NoMemory();
     else
-        local = public_end == normal.length ? hold(Py_None) : str_of(normal.bytes + public_end + 1, normal.length - public_end - 1);
+        local = local_in(normal.bytes, normal.length, public_end);
     result_done(&normal);
     return local;
 }
 
-/* Python's own of the library's parts: false with an exception. */
-static bool made_parts(const pylock_version_parts *read, const uint64_t *words, size_t count, const Text *text, Parts *parts)
+/* Python's own of the library's parts of a text, which is the normal form or isn't: false with an exception. */
+static bool made_parts(const pylock_version_parts *read, const uint64_t *words, size_t count, const Text *text, bool is_normal, Parts *parts)
 {
     parts->base = read->base;
     if ((parts->epoch = number_of(read->epoch_low, read->epoch_high)) != NULL && (parts->release = release_of(words, count)) != NULL &&
         (parts->pre = prerelease_of(read)) != NULL &&
         (parts->post = number_or_none(read->has_post, read->post_low, read->post_high)) != NULL &&
         (parts->dev = number_or_none(read->has_dev, read->dev_low, read->dev_high)) != NULL &&
-        (parts->local = memchr(text->bytes, '+', text->length) == NULL ? hold(Py_None) : local_of(text, read->public_end)) != NULL)
+        (parts->local = local_of(text, is_normal, read->public_end)) != NULL)
         return true;
     let_parts_go(parts);
     return false;
@@ -269,7 +276,7 @@ static bool find_whole(Version *version, PyObject *text, const Text *view, int32
     Whole whole;
     Parts parts = {.epoch = NULL};
     *code = read_whole(view, &whole);
-    bool is_good = *code == PYLOCK_OK && made_parts(&whole.parts, whole.words, whole.count, view, &parts);
+    bool is_good = *code == PYLOCK_OK && made_parts(&whole.parts, whole.words, whole.count, view, whole.kind.is_normal, &parts);
     /* finalizers may have run meanwhile; from here on nothing does but the library */
     is_good = is_good && version->text == NULL;
     if (is_good && !keep_key(version, whole.key, whole.key_length)) {
@@ -323,7 +330,7 @@ static bool set_normal_text(Version *version, PyObject *text, const Text *view)
     size_t count = 0;
     Parts parts = {.epoch = NULL};
     int32_t code = pylock_version_split(view->bytes, view->length, &read, words, RELEASE_ROOM * WORDS_OF_NUMBER, &count);
-    if (code != PYLOCK_OK || !made_parts(&read, words, count, view, &parts)) return false;
+    if (code != PYLOCK_OK || !made_parts(&read, words, count, view, true, &parts)) return false;
     version->text = hold(text);
     version->is_normal = true;
     set_parts(version, &parts, read.pre != 0 || read.has_dev);
@@ -582,16 +589,38 @@ static PyObject *get_given(PyObject *self, void *closure)
 
 /* ---- versions of parts ---- */
 
+typedef struct {
+    const char *letters;
+    size_t length;
+} Word;
+
+#define WORD(letters) {letters, sizeof letters - 1}
+
 /* The places of the parts, in the order in which they are told, and their names. */
 enum { EPOCH, RELEASE, PRE, POST, DEV, LOCAL, PARTS };
-static const char *const names_of_parts[PARTS] = {"epoch", "release", "pre", "post", "dev", "local"};
+static const Word names_of_parts[PARTS] = {WORD("epoch"), WORD("release"), WORD("pre"), WORD("post"), WORD("dev"), WORD("local")};
+
+/* The letters of pre-releases. */
+enum { PRES = 3 };
+static const Word letters_of_pre[PRES] = {WORD("a"), WORD("b"), WORD("rc")};
+
+/* Which of the words a text is: as many as there are where it is none, or with an exception. */
+static int place_of_word(PyObject *text, const Word *words, int count)
+{
+    Text view;
+    int place = 0;
+    if (!text_of(text, &view)) return count;
+    while (place < count && (words[place].length != view.length || memcmp(words[place].letters, view.bytes, view.length) != 0)) place++;
+    text_done(&view);
+    return place;
+}
 
 enum { LONGEST_MADE = 256 };
 
-/* A normal form that is written, and where in it the base ends. */
+/* A text that is written of parts. */
 typedef struct {
     char text[LONGEST_MADE];
-    size_t length, base;
+    size_t length;
 } Made;
 
 static bool add_letters(Made *made, const char *letters, size_t length)
@@ -602,8 +631,8 @@ static bool add_letters(Made *made, const char *letters, size_t length)
     return true;
 }
 
-/* Writes letters and a number behind them, which is an exact int and not a great one. */
-static bool add_number(Made *made, const char *letters, PyObject *number)
+/* Writes a number, which is an exact int and not a great one. */
+static bool add_number(Made *made, PyObject *number)
 {
     char digits[MOST_OF_DIGITS], *end = digits + sizeof digits;
     if (!PyLong_CheckExact(number)) return false;
@@ -613,25 +642,24 @@ static bool add_number(Made *made, const char *letters, PyObject *number)
         return false;
     }
     char *begin = digits_before(end, (uint64_t)value);
-    return add_letters(made, letters, strlen(letters)) && add_letters(made, begin, (size_t)(end - begin));
+    return add_letters(made, begin, (size_t)(end - begin));
 }
 
 static bool add_release(Made *made, PyObject *release)
 {
     if (!PyTuple_CheckExact(release) || PyTuple_Size(release) == 0) return false;
-    for (Py_ssize_t index = 0; index < PyTuple_Size(release); index++)
-        if (!add_number(made, index == 0 ? "" : ".", PyTuple_GetItem(release, index))) return false;
+    Py_ssize_t count = PyTuple_Size(release);
+    for (Py_ssize_t index = 0; index < count; index++)
+        if ((index > 0 && !add_letters(made, ".", 1)) || !add_number(made, PyTuple_GetItem(release, index))) return false;
     return true;
 }
 
 static bool add_pre(Made *made, PyObject *pre)
 {
-    static const char *const letters[] = {"a", "b", "rc"};
     if (!PyTuple_CheckExact(pre) || PyTuple_Size(pre) != 2 || !PyUnicode_CheckExact(PyTuple_GetItem(pre, 0))) return false;
-    for (size_t index = 0; index < sizeof letters / sizeof *letters; index++)
-        if (PyUnicode_CompareWithASCIIString(PyTuple_GetItem(pre, 0), letters[index]) == 0)
-            return add_number(made, letters[index], PyTuple_GetItem(pre, 1));
-    return false;
+    int place = place_of_word(PyTuple_GetItem(pre, 0), letters_of_pre, PRES);
+    return place < PRES && add_letters(made, letters_of_pre[place].letters, letters_of_pre[place].length) &&
+           add_number(made, PyTuple_GetItem(pre, 1));
 }
 
 /* Writes a local part of small letters, digits and dots. */
@@ -655,43 +683,34 @@ static bool made_of_parts(PyObject *const *parts, Made *made)
 {
     made->length = 0;
     bool has_epoch = !PyLong_CheckExact(parts[EPOCH]) || PyObject_IsTrue(parts[EPOCH]) != 0;
-    if (has_epoch && !(add_number(made, "", parts[EPOCH]) && add_letters(made, "!", 1))) return false;
-    if (!add_release(made, parts[RELEASE])) return false;
-    made->base = made->length;
-    return (parts[PRE] == Py_None || add_pre(made, parts[PRE])) && (parts[POST] == Py_None || add_number(made, ".post", parts[POST])) &&
-           (parts[DEV] == Py_None || add_number(made, ".dev", parts[DEV])) && (parts[LOCAL] == Py_None || add_local(made, parts[LOCAL]));
+    return (!has_epoch || (add_number(made, parts[EPOCH]) && add_letters(made, "!", 1))) && add_release(made, parts[RELEASE]) &&
+           (parts[PRE] == Py_None || add_pre(made, parts[PRE])) &&
+           (parts[POST] == Py_None || (add_letters(made, ".post", 5) && add_number(made, parts[POST]))) &&
+           (parts[DEV] == Py_None || (add_letters(made, ".dev", 4) && add_number(made, parts[DEV]))) &&
+           (parts[LOCAL] == Py_None || add_local(made, parts[LOCAL]));
 }
 
-/* The version of a text that was written of these parts, where it is a normal form and so has these: without its key where they
- * are known to be a version's, and else where the library finds it to be one. NULL, maybe without an exception, of others. */
-static PyObject *version_of_made(State *state, PyTypeObject *type, PyObject *const *given, const Made *made, bool are_known)
+/* The version of a text that was written of parts, as the library reads it, which finds whether that is a normal form and so has
+ * these parts. NULL, maybe without an exception, of others. */
+static PyObject *version_of_made(State *state, const Made *made)
 {
-    pylock_version_kind kind = {.is_prerelease = given[PRE] != Py_None || given[DEV] != Py_None, .is_normal = are_known};
     PyObject *text = PyUnicode_DecodeLatin1(made->text, (Py_ssize_t)made->length, NULL);
-    Version *version = text == NULL ? NULL : empty_version(state, type);
+    Version *version = text == NULL ? NULL : empty_version(state, state->version_class);
     Text view = {(const uint8_t *)made->text, made->length, NULL};
-    if (version != NULL && (are_known || find_key(version, &view, &kind) == PYLOCK_OK) && kind.is_normal) {
-        Parts parts = {hold(given[EPOCH]), hold(given[RELEASE]), hold(given[PRE]), hold(given[POST]), hold(given[DEV]), hold(given[LOCAL]), made->base};
-        version->text = hold(text);
-        version->is_normal = true;
-        set_parts(version, &parts, kind.is_prerelease);
-    } else
-        Py_CLEAR(version);
+    int32_t code;
+    if (version != NULL && !(find_whole(version, text, &view, &code) && version->is_normal)) Py_CLEAR(version);
     Py_XDECREF(text);
     return (PyObject *)version;
 }
 
-/* Puts the parts that are given by their names in their places: false where one has another name. `are_known` becomes false
- * where a local part is given, which isn't known to be one as numbers are. */
-static bool take_parts(PyObject *const *values, PyObject *names, PyObject **parts, bool *are_known)
+/* Puts the parts that are given by their names in their places: false where one has another name. */
+static bool take_parts(PyObject *const *values, PyObject *names, PyObject **parts)
 {
     Py_ssize_t count = names == NULL ? 0 : PyTuple_Size(names);
     for (Py_ssize_t index = 0; index < count; index++) {
-        int place = 0;
-        while (place < PARTS && PyUnicode_CompareWithASCIIString(PyTuple_GetItem(names, index), names_of_parts[place]) != 0) place++;
+        int place = place_of_word(PyTuple_GetItem(names, index), names_of_parts, PARTS);
         if (place == PARTS) return false;
         parts[place] = values[index];
-        *are_known = *are_known && (place != LOCAL || values[index] == Py_None);
     }
     return true;
 }
@@ -722,9 +741,9 @@ static PyObject *from_parts(PyObject *self, PyObject *const *arguments, Py_ssize
     if (state == NULL) return NULL;
     PyObject *zero = PyLong_FromLong(0), *version = NULL;
     PyObject *parts[PARTS] = {zero, NULL, Py_None, Py_None, Py_None, Py_None};
-    bool are_known = true, is_plain = self == (PyObject *)state->version_class && count == 0;
-    if (is_plain && take_parts(arguments, names, parts, &are_known) && parts[RELEASE] != NULL && made_of_parts(parts, &made))
-        version = version_of_made(state, (PyTypeObject *)self, parts, &made, are_known);
+    bool is_plain = self == (PyObject *)state->version_class && count == 0;
+    if (is_plain && take_parts(arguments, names, parts) && parts[RELEASE] != NULL && made_of_parts(parts, &made))
+        version = version_of_made(state, &made);
     Py_XDECREF(zero);
     if (version != NULL || PyErr_Occurred()) return version;
     return asked_of_layer("from_parts", self, arguments, count, names);
@@ -762,11 +781,11 @@ static PyObject *version_replace(PyObject *self, PyObject *const *arguments, Py_
     State *state = version->state;
     Made made;
     PyObject *parts[PARTS] = {version->epoch, version->release, version->pre, version->post, version->dev, version->local};
-    bool are_known = true, is_plain = Py_TYPE(self) == state->version_class && version->release != NULL && count == 0;
-    if (is_plain && take_parts(arguments, names, parts, &are_known) && made_of_parts(parts, &made)) {
+    bool is_plain = Py_TYPE(self) == state->version_class && version->release != NULL && count == 0;
+    if (is_plain && take_parts(arguments, names, parts) && made_of_parts(parts, &made)) {
         int is_same = has_such_parts(version, parts) ? is_its_text(self, &made) : 0;
         if (is_same != 0) return is_same < 0 ? NULL : hold(self);
-        PyObject *other = version_of_made(state, Py_TYPE(self), parts, &made, are_known);
+        PyObject *other = version_of_made(state, &made);
         if (other != NULL || PyErr_Occurred()) return other;
     }
     return PyErr_Occurred() ? NULL : asked_of_layer("replaced", self, arguments, count, names);

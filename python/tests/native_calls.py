@@ -150,7 +150,7 @@ class Untold:
 
 
 def of_names():
-    for name in ("canonicalize_name", "is_normalized_name", "library_name", "is_name"):
+    for name in ("canonicalize_name", "is_normalized_name", "is_name"):
         for text in ("A__b.C", "É-" * 300, "a-b"):
             yield Row("%s(%.6s)" % (name, text), getattr(_native, name), lambda text=text: (fresh(text),))
     yield Row("canonicalize_name(half)", _native.canonicalize_name, fixed("a\ud800"), pylock.InvalidName)

@@ -106,7 +106,7 @@ class Arguments(unittest.TestCase):
     def test_types(self):
         """What takes a text takes nothing else."""
         for name in ("version_key", "version_record", "phase", "canonicalize_version", "canonicalize_name", "is_normalized_name",
-                     "library_name", "is_name", "parse_tag", "parse_wheel_filename", "parse_sdist_filename", "requirement", "requirement_parts", "wheel", "sdist",
+                     "is_name", "parse_tag", "parse_wheel_filename", "parse_sdist_filename", "requirement", "requirement_parts", "wheel", "sdist",
                      "requirement_expected", "marker_expected", "set_expected", "specifier_expected", "specifiers", "Version", "Specifier",
                      "Marker"):
             for odd in (None, 1, b"1", [], {}, object(), Odd()):
@@ -161,7 +161,7 @@ class Arguments(unittest.TestCase):
 
 class Texts(unittest.TestCase):
     CALLS = (_native.Version, _native.Set, _native.Marker, _native.version_key, _native.version_record, _native.phase, _native.parse_tag,
-             _native.canonicalize_version, _native.canonicalize_name, _native.is_normalized_name, _native.library_name, _native.is_name,
+             _native.canonicalize_version, _native.canonicalize_name, _native.is_normalized_name, _native.is_name,
              _native.parse_wheel_filename, _native.parse_sdist_filename, _native.requirement, _native.requirement_parts, _native.wheel, _native.sdist,
              _native.requirement_expected, _native.marker_expected, _native.set_expected, _native.specifier_expected,
              _native.specifiers, _native.Specifier)

@@ -1,8 +1,8 @@
 """What the compiled module says of a text, held to another of the library's calls for the same text.
 
-These are the normal form of a short name in ASCII, which it writes itself; of a version its normal forms and its kind; of a
-specifier set, where its specifiers lie. The string of a marker, which it writes itself too, is held to that of its tree. And what it keeps from one call to the next: the variables that a mapping before had,
-and tags that were cut of a text.
+These are of a version its normal forms and its kind; of a specifier set, where its specifiers lie. The normal form of a name is
+held to PEP 503's own words for it, and the string of a marker, which the module writes itself, to that of its tree. And what it
+keeps from one call to the next: the variables that a mapping before had, and tags that were cut of a text.
 """
 
 import collections.abc
@@ -71,18 +71,24 @@ def parts(one):
     return [str(one), *("-" if field is None else str(field) for field in fields)]
 
 
+def normal_name(text):
+    """The normal form of a name, as PEP 503 writes it."""
+    return re.sub("[-_.]+", "-", text).lower()
+
+
 class Names(unittest.TestCase):
     def test_short_texts(self):
         for text in short_texts(NAME_LETTERS, 4):
-            normal = _native.library_name(text)
+            normal = normal_name(text)
             if canonicalize_name(text) != normal or is_normalized_name(text) != (_native.is_name(text) and normal == text):
                 self.fail((text, canonicalize_name(text), normal))
 
     def test_long_texts(self):
         dice = random.Random(49)
         for length in (63, 511, 512, 513, 5000):
-            text = "".join([dice.choice("aZ0-_.") for _ in range(length)])
-            self.assertEqual(canonicalize_name(text), _native.library_name(text))
+            for letters in ("aZ0-_.", "a", "-", "aZ-\u00c9"):
+                text = "".join([dice.choice(letters) for _ in range(length)])
+                self.assertEqual(canonicalize_name(text), normal_name(text))
 
 
 class Late(Version):

@@ -22,7 +22,7 @@ mod name;
 mod set;
 mod version;
 
-pub use name::{NormalForm, NormalName, is_name, is_same_name, normal_name};
+pub use name::{NormalForm, NormalName, is_name, is_same_name, normal_name, write_normal_name};
 pub use set::{Operator, ReleasePrefix, Specifier, SpecifierError, SpecifierSet};
 pub use version::{
     LocalPart, PartsError, PlainVersion, PreKind, Version, VersionError, VersionParts,

@@ -1,7 +1,8 @@
 -- Names that are their own normal form.
 use Rattle.std.specs.Prelude.{◌≡◌, ℕ, ◌==◌, ◌<◌, ◌&&◌, ◌||◌, not, Bool, false, true, List, [], ◌∷◌}
 use Rattle.std.specs.Prelude.{length, if◌then◌else◌}
-use Rattle.std.specs.Char.{is_ascii_digit, is_ascii_lowercase}
+use Rattle.std.specs.Char.{is_ascii_digit, is_ascii_lowercase, to_ascii_lowercase}
+use Rattle.pytext.specs.Bytes.{is_separator}
 use Rattle.pyver_core.specs.Name.{normal_name}
 
 -- a byte that a normal form may have
@@ -20,3 +21,10 @@ is_normal_rest after_dash (b ∷ rest) =
 pub record BeginsNormal (text : List ℕ) (byte : ℕ) (behind : List ℕ) : Type 0 where
   pub begins : normal_name text ≡ byte ∷ normal_name behind
   pub shorter : length behind < length text
+
+-- what a byte adds to a normal form, behind a separator or not
+abbrev pub added : Bool → ℕ → List ℕ
+added in_run b =
+    if is_separator b
+    then (if in_run then [] else 45 ∷ [])
+    else to_ascii_lowercase b ∷ []

@@ -1,12 +1,14 @@
 -- The normal form of a name, read character by character from the left.
-use Rattle.std.proofs.Common.{◌≡◌, ℕ, ◌+◌, ◌/◌, ◌%◌, ◌<◌, ◌≤◌, Bool, true, false, List, [], ◌∷◌, ◌++◌, refl, sym, ap, ◌∙◌, arith, inl, inr, append_assoc, append-nil}
+use Rattle.std.proofs.Common.{◌≡◌, ℕ, ◌+◌, ◌-◌, ◌/◌, ◌%◌, ◌<◌, ◌≤◌, Bool, true, false, List, [], ◌∷◌, ◌++◌, length, take, drop, refl, sym, ap, ◌∙◌, arith, inl, inr, append_assoc, append-nil}
 use Rattle.std.proofs.lemmas.Bool.{cases_Bool}
 use Rattle.std.proofs.lemmas.Bool.Decides.{nat_tests}
+use Rattle.std.proofs.lemmas.List.{drop-drop, length-take-le, take-append-drop}
 use Rattle.std.proofs.lemmas.Str.{encode_ascii}
 use Rattle.std.specs.Char.{to_ascii_lowercase}
 use Rattle.std.specs.Prelude.{if◌then◌else◌, nat_lt}
 use lib.Utf8.{encode}
 use Rattle.pytext.specs.Bytes.{is_separator}
+use Rattle.pyver_core.specs.Inner.Names.{added}
 use Rattle.pyver_core.specs.Name.{normal_name}
 
 -- the normal form of what follows, by whether the character before is a separator
@@ -147,3 +149,41 @@ step-further name whole bytes c rest separates e so_far =
 pub last-step : (name whole bytes : List ℕ) (in_run : Bool) → bytes ≡ [] → name ++ collapse in_run bytes ≡ whole → name ≡ whole
 unfolding collapse
 last-step name whole bytes in_run e so_far = sym (append-nil name) ∙ ap (λ (rest : List ℕ). name ++ collapse in_run rest) (sym e) ∙ so_far
+
+-- ---- the same, written into a buffer byte by byte
+
+collapse-added : (in_run : Bool) (b : ℕ) (rest : List ℕ) → collapse in_run (b ∷ rest) ≡ added in_run b ++ collapse (is_separator b) rest
+unfolding collapse
+collapse-added true b rest = elim (cases_Bool (is_separator b)) [ inl separates ↦ rw separates refl | inr other ↦ rw other refl ]
+collapse-added false b rest = elim (cases_Bool (is_separator b)) [ inl separates ↦ rw separates refl | inr other ↦ rw other refl ]
+
+-- what stands before a place, and what is still to come
+pub written_more : (out out' whole bytes rest : List ℕ) (in_run : Bool) (b count count' : ℕ) → bytes ≡ b ∷ rest
+    → take count' out' ≡ take count out ++ added in_run b → take count out ++ collapse in_run bytes ≡ whole
+    → take count' out' ++ collapse (is_separator b) rest ≡ whole
+written_more out out' whole bytes rest in_run b count count' e put so_far =
+    ap (λ (front : List ℕ). front ++ collapse (is_separator b) rest) put
+    ∙ append_assoc (take count out) (added in_run b) (collapse (is_separator b) rest)
+    ∙ ap (λ (more : List ℕ). take count out ++ more) (sym (collapse-added in_run b rest) ∙ ap (collapse in_run) (sym e))
+    ∙ so_far
+
+-- what stands behind it
+pub behind_more : (out out' old : List ℕ) (count count' : ℕ) → count ≤ count' → drop count' out' ≡ drop count' out
+    → drop count out ≡ drop count old → drop count' out' ≡ drop count' old
+behind_more out out' old count count' more put so_far =
+    let step : ℕ = count' - count in
+    let there : count + step ≡ count' = omega arith in
+    put ∙ ap (λ (n : ℕ). drop n out) (sym there) ∙ sym (drop-drop step count out) ∙ ap (drop step) so_far
+    ∙ drop-drop step count old ∙ ap (λ (n : ℕ). drop n old) there
+
+pub all_written : (out old whole bytes : List ℕ) (in_run : Bool) (count : ℕ) → bytes ≡ [] → take count out ++ collapse in_run bytes ≡ whole
+    → drop count out ≡ drop count old → out ≡ whole ++ drop count old
+all_written out old whole bytes in_run count e so_far behind =
+    sym (take-append-drop count out)
+    ∙ ap (λ (front : List ℕ). front ++ drop count out) (last-step (take count out) whole bytes in_run e so_far)
+    ∙ ap (λ (more : List ℕ). whole ++ more) behind
+
+pub all_counted : (out whole bytes : List ℕ) (in_run : Bool) (count : ℕ) → count ≤ length out → bytes ≡ []
+    → take count out ++ collapse in_run bytes ≡ whole → count ≡ length whole
+all_counted out whole bytes in_run count within e so_far =
+    sym (length-take-le count out within) ∙ ap length (last-step (take count out) whole bytes in_run e so_far)
