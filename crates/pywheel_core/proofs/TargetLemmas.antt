@@ -6,7 +6,7 @@ use Rattle.std.proofs.lemmas.List.{append-nil, append_assoc, drop-append-le, len
 use Rattle.std.proofs.lemmas.List.Elements.{All-head, All-push, All-tail, All-weaker}
 use Rattle.std.proofs.lemmas.List.Folds.{concat-append}
 use Rattle.std.proofs.lemmas.List.Sums.{fold-append}
-use Rattle.std.proofs.lemmas.Option.{same_Some}
+use Rattle.std.proofs.lemmas.Option.{cond_some, same_Some}
 use Rattle.std.specs.List.{concat, flat_map}
 use Rattle.pytext.proofs.OptionsLemmas.{option_cases}
 use Rattle.pywheel_core.proofs.Lemmas.Tag.Pieces.{whole_stands}
@@ -26,17 +26,13 @@ use Rattle.pywheel_core.specs.declared.target.platform.Platform.TheVariants as p
 
 -- ---- what is read is known
 
-pub kept_if : {A : Type 0} (test : Bool) (x y : A) → (if test then Some x else None) ≡ Some y → (test ≡ true) × (x ≡ y)
-kept_if true x y h = (refl, same_Some x y h)
-kept_if false x y h = absurd cc
-
 with_known : (is_free_threaded : Bool) (text : List ℕ) (p : CPython) → python_with is_free_threaded text ≡ Some p → is_cpython p ≡ true
 unfolding python_with
 with_known free text p h = elim (option_cases (release_of text)) [
   | inl none ↦ absurd (let z : None ≡ Some p = rw none at h in cc)
   | inr f ↦ let h2 = rw f.1 at h in
       let python : CPython = record { minor = f.0.0; micro = f.0.1; is_free_threaded = free } in
-      let k = kept_if (is_cpython python) python p h2 in sym (ap is_cpython k.1) ∙ k.0
+      let k = cond_some (is_cpython python) python p h2 in sym (ap is_cpython k.1) ∙ k.0
 ]
 
 in_known : (text : List ℕ) (release : Option (List ℕ)) (p : CPython) → python_in text release ≡ Some p → is_cpython p ≡ true
@@ -52,7 +48,7 @@ unfolding platform_of
 platform_known text p h = elim (option_cases (shaped_platform text)) [
   | inl none ↦ absurd (let z : None ≡ Some p = rw none at h in cc)
   | inr f ↦ let h2 = rw f.1 at h in
-      let k = kept_if (is_platform f.0) f.0 p h2 in sym (ap is_platform k.1) ∙ k.0
+      let k = cond_some (is_platform f.0) f.0 p h2 in sym (ap is_platform k.1) ∙ k.0
 ]
 
 pub target_known : (python place : List ℕ) (p : CPython) (q : Platform) → python_of python ≡ Some p → platform_of place ≡ Some q → (is_cpython p && is_platform q) ≡ true

@@ -46,16 +46,14 @@ os_name (platform.Windows arch) = codes "nt"
 os_name other = codes "posix"
 
 abbrev pub sys_platform : Platform → List ℕ
-sys_platform (platform.Manylinux minor arch) = codes "linux"
-sys_platform (platform.Musllinux minor arch) = codes "linux"
 sys_platform (platform.MacOs major minor arch) = codes "darwin"
 sys_platform (platform.Windows arch) = codes "win32"
+sys_platform other = codes "linux"
 
 abbrev pub platform_system : Platform → List ℕ
-platform_system (platform.Manylinux minor arch) = codes "Linux"
-platform_system (platform.Musllinux minor arch) = codes "Linux"
 platform_system (platform.MacOs major minor arch) = codes "Darwin"
 platform_system (platform.Windows arch) = codes "Windows"
+platform_system other = codes "Linux"
 
 abbrev pub windows_machine : WindowsArch → List ℕ
 windows_machine windows.X86 = codes "x86"

@@ -22,12 +22,7 @@ is_cpython python = nat_le 8 python.minor
 abbrev pub glibc_floor : LinuxArch → ℕ
 glibc_floor linux.X86_64 = 5
 glibc_floor linux.I686 = 5
-glibc_floor linux.Aarch64 = 17
-glibc_floor linux.Armv7l = 17
-glibc_floor linux.Ppc64le = 17
-glibc_floor linux.S390x = 17
-glibc_floor linux.Riscv64 = 17
-glibc_floor linux.Loongarch64 = 17
+glibc_floor other = 17
 
 abbrev pub is_intel : MacArch → Bool
 is_intel mac.X86_64 = true

@@ -10,7 +10,7 @@ use Rattle.std.specs.List.{Contains}
 use Rattle.std.specs.Ordering.{is_lt, ordering_reverse}
 use Rattle.std.specs.declared.cmp.Ordering.{Ordering}
 use Rattle.std.specs.declared.cmp.Ordering.TheVariants.{Less, Equal, Greater}
-use Rattle.std.proofs.lemmas.Bool.{and_parts, cases_Bool, or_parts}
+use Rattle.std.proofs.lemmas.Bool.{and_parts, cases_Bool, or_cases, or_parts}
 use Rattle.pywheel_core.specs.Choice.{ComesBehind, IsBest, IsCompatible, IsRank, Ranked, best, best_from, better, is_better, least_rank, rank_from, ranked}
 use Rattle.pywheel_core.specs.Tag.{TagValue, rank_of}
 use Rattle.pywheel_core.specs.Wheel.Build.{build_number, build_rest, builds_cmp}
@@ -152,20 +152,15 @@ reversed x y o e = builds_total.antisymm y x ∙ ap ordering_reverse e
 
 lt_less : (o : Ordering) → is_lt o ≡ true → o ≡ Less
 lt_less Less e = refl
-lt_less Equal e = absurd (true≢false (sym e))
-lt_less Greater e = absurd (true≢false (sym e))
+lt_less o e = absurd (true≢false (sym e))
 
 not_lt : (o : Ordering) → is_lt o ≡ false → (o ≡ Equal) ⊎ (o ≡ Greater)
 not_lt Less e = absurd (true≢false e)
 not_lt Equal e = inl refl
 not_lt Greater e = inr refl
 
-either_holds : (x y : Bool) → (x || y) ≡ true → (x ≡ true) ⊎ (y ≡ true)
-either_holds true y h = inl refl
-either_holds false y h = inr h
-
 better_means : (first later : Ranked) → is_better later first ≡ true → (later.rank < first.rank) ⊎ ((later.rank ≡ first.rank) × (builds_cmp first.build later.build ≡ Less))
-better_means first later t = elim (either_holds (nat_lt later.rank first.rank) ((later.rank == first.rank) && is_lt (builds_cmp first.build later.build)) t) [
+better_means first later t = elim (or_cases (nat_lt later.rank first.rank) ((later.rank == first.rank) && is_lt (builds_cmp first.build later.build)) t) [
   | inl e ↦ inl (grind (arith, nat_tests, e))
   | inr e ↦ let p = and_parts (later.rank == first.rank) (is_lt (builds_cmp first.build later.build)) e in
       inr ((Decides-eqb later.rank first.rank).0 p.0, lt_less (builds_cmp first.build later.build) p.1)

@@ -103,8 +103,7 @@ release_lacks (n ∷ ns) = lacks_both (decimal_text n) (flat_map dotted_number n
 
 kind_lacks : (kind : PreKind) → Lacks 45 (kind_text kind)
 kind_lacks A = refl
-kind_lacks B = refl
-kind_lacks Rc = refl
+kind_lacks kind = refl
 
 pre_lacks : (o : Option (PreKind × ℕ)) → Lacks 45 (pre_text o)
 pre_lacks None = refl

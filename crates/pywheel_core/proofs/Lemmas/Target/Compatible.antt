@@ -2,10 +2,11 @@
 use Rattle.std.proofs.Common.{◌≡◌, ℕ, ◌<◌, ◌≤◌, Bool, true, false, nat_lt, List, [], ◌∷◌, ◌++◌, codes, map, refl, sym, subst, ap, ◌∙◌, ◌⊎◌, ◌↔◌, inl, inr, arith}
 use Rattle.std.proofs.lemmas.Bool.Decides.{nat_tests}
 use Rattle.std.proofs.lemmas.Bool.{cases_Bool}
+use Rattle.pywheel_core.proofs.Lemmas.Target.Distinct.{own_letter, stable_letter}
 use Rattle.pywheel_core.proofs.Lemmas.Target.Names.{differ}
 use Rattle.pywheel_core.proofs.Lemmas.Target.Once.{IsTriple, among_in, down_in, in_among, in_append, in_down, in_left, in_map, in_right, in_triples, map_in, triples_in}
 use Rattle.pywheel_core.proofs.Lemmas.Target.Parts.{least_minor}
-use Rattle.pywheel_core.proofs.Lemmas.Target.Platforms.{runs_in, runs_of}
+use Rattle.pywheel_core.proofs.Lemmas.Target.Platforms.{one_of_one, runs_in, runs_of}
 use Rattle.pywheel_core.proofs.TargetLemmas.{platform_there}
 use Rattle.pywheel_core.specs.Tag.{TagValue, is_among, triples}
 use Rattle.pywheel_core.specs.Target.Compatible.{IsCompatible, IsOneOf, IsPair, IsPurePython, IsStable, RunsOn}
@@ -35,10 +36,6 @@ all_pure minor w (inr (inr (older, high, e))) = elim (cases_Bool (nat_lt older m
   | inr l ↦ let same : older ≡ minor = grind (arith, nat_tests) in inr (inl (e ∙ ap python_name same))
 ]
 
-one_of_one : (w v : List ℕ) → IsOneOf w (v ∷ []) → w ≡ v
-one_of_one w v (inl e) = e
-one_of_one w v (inr h) = absurd h
-
 -- ---- from the list
 
 first_pair : (p : CPython) (python abi : List ℕ) → 2 ≤ p.minor → python ≡ cpython_name p.minor → IsOneOf abi (own_abi p ∷ stable_abi p ∷ no_abi ∷ []) → IsPair p python abi
@@ -46,91 +43,74 @@ first_pair p python abi low e (inl a) = inl (e, a)
 first_pair p python abi low e (inr (inl a)) = inr (inl (p.minor, low, omega arith, e, a))
 first_pair p python abi low e (inr (inr a)) = inr (inr (inl e, one_of_one abi no_abi a))
 
-pub compatible_of : (t : TargetValue) (x : TagValue) → is_target t ≡ true → IsOneOf x (target_tags t) → IsCompatible t x
+-- ---- the four parts of the list
+
+abbrev own_tags : TargetValue → List TagValue
+own_tags t = triples (cpython_name t.python.minor ∷ []) (own_abi t.python ∷ stable_abi t.python ∷ no_abi ∷ []) (platforms_of t.platform)
+
+abbrev older_tags : TargetValue → List TagValue
+older_tags t = triples (older_cpythons t.python.minor) (stable_abi t.python ∷ []) (platforms_of t.platform)
+
+abbrev pure_tags : TargetValue → List TagValue
+pure_tags t = triples (pythons_3 t.python.minor) (no_abi ∷ []) (platforms_of t.platform)
+
+abbrev any_tags : TargetValue → List TagValue
+any_tags t = triples (cpython_name t.python.minor ∷ pythons_3 t.python.minor) (no_abi ∷ []) (any_platform ∷ [])
+
+abbrev pub IsListed : TargetValue → TagValue → Type 0
+IsListed t x =
+    IsTriple x (cpython_name t.python.minor ∷ []) (own_abi t.python ∷ stable_abi t.python ∷ no_abi ∷ []) (platforms_of t.platform)
+    ⊎ (IsTriple x (older_cpythons t.python.minor) (stable_abi t.python ∷ []) (platforms_of t.platform)
+    ⊎ (IsTriple x (pythons_3 t.python.minor) (no_abi ∷ []) (platforms_of t.platform)
+    ⊎ IsTriple x (cpython_name t.python.minor ∷ pythons_3 t.python.minor) (no_abi ∷ []) (any_platform ∷ [])))
+
+pub parted : (t : TargetValue) (x : TagValue) → IsOneOf x (target_tags t) → IsListed t x
 unfolding target_tags
-compatible_of t x known h =
-    let minor = t.python.minor in
-    let platforms = platforms_of t.platform in
-    let cpython = cpython_name minor in
-    let abis = own_abi t.python ∷ stable_abi t.python ∷ no_abi ∷ [] in
-    let stable = stable_abi t.python ∷ [] in
-    let none = no_abi ∷ [] in
-    let any = any_platform ∷ [] in
-    let first = triples (cpython ∷ []) abis platforms in
-    let second = triples (older_cpythons minor) stable platforms in
-    let third = triples (pythons_3 minor) none platforms in
-    let fourth = triples (cpython ∷ pythons_3 minor) none any in
-    let runs : IsOneOf x.platform platforms → RunsOn t.platform x.platform = runs_of t.platform x.platform (platform_there t known) in
-    elim (in_append x first (second ++ (third ++ fourth)) h) [
-      | inl p ↦
-          let r : IsTriple x (cpython ∷ []) abis platforms = in_triples x (cpython ∷ []) abis platforms p in
-          (first_pair t.python x.python x.abi (least_minor t known) (one_of_one x.python cpython r.0) r.1, inl (runs r.2))
-      | inr q ↦ elim (in_append x second (third ++ fourth) q) [
-        | inl p ↦
-            let r : IsTriple x (older_cpythons minor) stable platforms = in_triples x (older_cpythons minor) stable platforms p in
-            let s = in_map cpython_name x.python (down 2 minor) r.0 in
-            let b = in_down 2 minor s.0 s.1 in
-            (inr (inl (s.0, b.0, omega (arith, b.1), s.2, one_of_one x.abi (stable_abi t.python) r.1)), inl (runs r.2))
-        | inr q ↦ elim (in_append x third fourth q) [
-          | inl p ↦
-              let r : IsTriple x (pythons_3 minor) none platforms = in_triples x (pythons_3 minor) none platforms p in
-              (inr (inr (pure_of minor x.python r.0, one_of_one x.abi no_abi r.1)), inl (runs r.2))
-          | inr p ↦
-              let r : IsTriple x (cpython ∷ pythons_3 minor) none any = in_triples x (cpython ∷ pythons_3 minor) none any p in
-              (inr (inr (pure_all minor x.python r.0, one_of_one x.abi no_abi r.1)), inr (one_of_one x.abi no_abi r.1, one_of_one x.platform any_platform r.2))
-        ]
-      ]
+parted t x h = elim (in_append x (own_tags t) (older_tags t ++ (pure_tags t ++ any_tags t)) h) [
+  | inl p ↦ inl (in_triples x (cpython_name t.python.minor ∷ []) (own_abi t.python ∷ stable_abi t.python ∷ no_abi ∷ []) (platforms_of t.platform) p)
+  | inr q ↦ elim (in_append x (older_tags t) (pure_tags t ++ any_tags t) q) [
+    | inl p ↦ inr (inl (in_triples x (older_cpythons t.python.minor) (stable_abi t.python ∷ []) (platforms_of t.platform) p))
+    | inr r ↦ elim (in_append x (pure_tags t) (any_tags t) r) [
+      | inl p ↦ inr (inr (inl (in_triples x (pythons_3 t.python.minor) (no_abi ∷ []) (platforms_of t.platform) p)))
+      | inr p ↦ inr (inr (inr (in_triples x (cpython_name t.python.minor ∷ pythons_3 t.python.minor) (no_abi ∷ []) (any_platform ∷ []) p)))
     ]
+  ]
+]
+
+from_listed : (t : TargetValue) (x : TagValue) → is_target t ≡ true → IsListed t x → IsCompatible t x
+from_listed t x known (inl r) =
+    (first_pair t.python x.python x.abi (least_minor t known) (one_of_one x.python (cpython_name t.python.minor) r.0) r.1, inl (runs_of t.platform x.platform (platform_there t known) r.2))
+from_listed t x known (inr (inl r)) =
+    let s = in_map cpython_name x.python (down 2 t.python.minor) r.0 in
+    let b = in_down 2 t.python.minor s.0 s.1 in
+    (inr (inl (s.0, b.0, omega (arith, b.1), s.2, one_of_one x.abi (stable_abi t.python) r.1)), inl (runs_of t.platform x.platform (platform_there t known) r.2))
+from_listed t x known (inr (inr (inl r))) =
+    (inr (inr (pure_of t.python.minor x.python r.0, one_of_one x.abi no_abi r.1)), inl (runs_of t.platform x.platform (platform_there t known) r.2))
+from_listed t x known (inr (inr (inr r))) =
+    (inr (inr (pure_all t.python.minor x.python r.0, one_of_one x.abi no_abi r.1)), inr (one_of_one x.abi no_abi r.1, one_of_one x.platform any_platform r.2))
+
+pub compatible_of : (t : TargetValue) (x : TagValue) → is_target t ≡ true → IsOneOf x (target_tags t) → IsCompatible t x
+compatible_of t x known h = from_listed t x known (parted t x h)
 
 -- ---- into the list
 
 pub abi_letters : (p : CPython) → own_abi p ≡ no_abi → ⊥
-abi_letters p e = elim (cases_Bool p.is_free_threaded) [
-  | inl f ↦ let x = rw f at e in differ 0 _ _ (λ y. omega (arith, y)) x
-  | inr f ↦ let x = rw f at e in differ 0 _ _ (λ y. omega (arith, y)) x
-]
+abi_letters p e = let x = own_letter p in differ 0 _ _ (λ y. omega (arith, x, y)) e
 
 stable_letters : (p : CPython) → stable_abi p ≡ no_abi → ⊥
-stable_letters p e = elim (cases_Bool p.is_free_threaded) [
-  | inl f ↦ let x = rw f at e in differ 0 _ _ (λ y. omega (arith, y)) x
-  | inr f ↦ let x = rw f at e in differ 0 _ _ (λ y. omega (arith, y)) x
-]
-
--- the four parts of the list
-abbrev IsListed : TargetValue → TagValue → Type 0
-IsListed t x =
-    let minor = t.python.minor in
-    let platforms = platforms_of t.platform in
-    let cpython = cpython_name minor in
-    (IsTriple x (cpython ∷ []) (own_abi t.python ∷ stable_abi t.python ∷ no_abi ∷ []) platforms
-    ⊎ (IsTriple x (older_cpythons minor) (stable_abi t.python ∷ []) platforms
-    ⊎ (IsTriple x (pythons_3 minor) (no_abi ∷ []) platforms
-    ⊎ IsTriple x (cpython ∷ pythons_3 minor) (no_abi ∷ []) (any_platform ∷ []))))
+stable_letters p e = let x = stable_letter p in differ 0 _ _ (λ y. omega (arith, x, y)) e
 
 listed : (t : TargetValue) (x : TagValue) → IsListed t x → IsOneOf x (target_tags t)
 unfolding target_tags
-listed t x h =
-    let minor = t.python.minor in
-    let platforms = platforms_of t.platform in
-    let cpython = cpython_name minor in
-    let abis = own_abi t.python ∷ stable_abi t.python ∷ no_abi ∷ [] in
-    let stable = stable_abi t.python ∷ [] in
-    let none = no_abi ∷ [] in
-    let any = any_platform ∷ [] in
-    let first = triples (cpython ∷ []) abis platforms in
-    let second = triples (older_cpythons minor) stable platforms in
-    let third = triples (pythons_3 minor) none platforms in
-    let fourth = triples (cpython ∷ pythons_3 minor) none any in
-    elim h [
-      | inl p ↦ in_left x first (second ++ (third ++ fourth)) (triples_in x (cpython ∷ []) abis platforms p)
-      | inr q ↦ in_right x first (second ++ (third ++ fourth)) (elim q [
-        | inl p ↦ in_left x second (third ++ fourth) (triples_in x (older_cpythons minor) stable platforms p)
-        | inr q ↦ in_right x second (third ++ fourth) (elim q [
-          | inl p ↦ in_left x third fourth (triples_in x (pythons_3 minor) none platforms p)
-          | inr p ↦ in_right x third fourth (triples_in x (cpython ∷ pythons_3 minor) none any p)
-        ])
-      ])
-    ]
+listed t x (inl p) =
+    in_left x (own_tags t) (older_tags t ++ (pure_tags t ++ any_tags t)) (triples_in x (cpython_name t.python.minor ∷ []) (own_abi t.python ∷ stable_abi t.python ∷ no_abi ∷ []) (platforms_of t.platform) p)
+listed t x (inr q) = in_right x (own_tags t) (older_tags t ++ (pure_tags t ++ any_tags t)) (elim q [
+  | inl p ↦ in_left x (older_tags t) (pure_tags t ++ any_tags t) (triples_in x (older_cpythons t.python.minor) (stable_abi t.python ∷ []) (platforms_of t.platform) p)
+  | inr r ↦ in_right x (older_tags t) (pure_tags t ++ any_tags t) (elim r [
+    | inl p ↦ in_left x (pure_tags t) (any_tags t) (triples_in x (pythons_3 t.python.minor) (no_abi ∷ []) (platforms_of t.platform) p)
+    | inr p ↦ in_right x (pure_tags t) (any_tags t) (triples_in x (cpython_name t.python.minor ∷ pythons_3 t.python.minor) (no_abi ∷ []) (any_platform ∷ []) p)
+  ])
+])
 
 pub compatible_in : (t : TargetValue) (x : TagValue) → is_target t ≡ true → IsCompatible t x → IsOneOf x (target_tags t)
 compatible_in t x known (inl (python, abi), inl runs) = listed t x (inl (inl python, inl abi, runs_in t.platform x.platform (platform_there t known) runs))

@@ -4,7 +4,7 @@ use Rattle.std.proofs.lemmas.Bool.{cases_Bool}
 use Rattle.pywheel_core.proofs.Lemmas.Target.Names.{cpython_same, differ, python_numbered, python_same}
 use Rattle.pywheel_core.proofs.Lemmas.Target.Once.{IsOnce, IsTriple, added_once, in_append, in_down, in_map, in_triples, once_append, once_down, once_map, once_triples}
 use Rattle.pywheel_core.proofs.Lemmas.Target.Parts.{python_bounds}
-use Rattle.pywheel_core.proofs.Lemmas.Target.Platforms.{not_any, platforms_once, runs_of}
+use Rattle.pywheel_core.proofs.Lemmas.Target.Platforms.{not_any, one_of_one, platforms_once, runs_of}
 use Rattle.pywheel_core.proofs.TargetLemmas.{cpython_in, platform_there}
 use Rattle.pywheel_core.specs.Tag.{TagValue, triples, with_tag}
 use Rattle.pywheel_core.specs.Target.Compatible.{IsOneOf, IsPurePython, RunsOn}
@@ -15,23 +15,11 @@ use Rattle.pywheel_core.specs.declared.target.cpython.CPython.{CPython}
 
 -- ---- Pythons and ABIs
 
-one_of_one : (w v : List ℕ) → IsOneOf w (v ∷ []) → w ≡ v
-one_of_one w v (inl e) = e
-one_of_one w v (inr h) = absurd h
+pub own_letter : (p : CPython) → get_or (own_abi p) 0 0 ≡ 99
+own_letter p = elim (cases_Bool p.is_free_threaded) [ inl e ↦ rw e refl | inr e ↦ rw e refl ]
 
-own_letter : (p : CPython) → get_or (own_abi p) 0 0 ≡ 99
-own_letter p = by_kind p.is_free_threaded
-  where
-    by_kind : (free : Bool) → get_or (if free then cpython_name p.minor ++ codes "t" else cpython_name p.minor) 0 0 ≡ 99
-    by_kind true = refl
-    by_kind false = refl
-
-stable_letter : (p : CPython) → get_or (stable_abi p) 0 0 ≡ 97
-stable_letter p = by_kind p.is_free_threaded
-  where
-    by_kind : (free : Bool) → get_or (if free then codes "abi3t" else codes "abi3") 0 0 ≡ 97
-    by_kind true = refl
-    by_kind false = refl
+pub stable_letter : (p : CPython) → get_or (stable_abi p) 0 0 ≡ 97
+stable_letter p = elim (cases_Bool p.is_free_threaded) [ inl e ↦ rw e refl | inr e ↦ rw e refl ]
 
 abis_once : (p : CPython) → IsOnce (own_abi p ∷ stable_abi p ∷ no_abi ∷ [])
 abis_once p =

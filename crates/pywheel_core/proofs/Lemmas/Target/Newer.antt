@@ -125,26 +125,15 @@ platform_part (platform.Manylinux minor arch) (platform.Manylinux than on) p q h
     subst (λ a. IsPart (manylinux_platforms than a) (manylinux_platforms minor arch)) h.1
     (part_append _ _ (linux_name arch ∷ []) (linux_name arch ∷ [])
     (ends_part _ _ (flat_ends (glibc_names arch) (glibc_floor arch) (than + 1) (minor + 1) (omega (arith, h.0)))) (part_own (linux_name arch ∷ [])))
-platform_part (platform.Manylinux minor arch) (platform.Musllinux than on) p q h = absurd h
-platform_part (platform.Manylinux minor arch) (platform.MacOs m n on) p q h = absurd h
-platform_part (platform.Manylinux minor arch) (platform.Windows on) p q h = absurd h
-platform_part (platform.Musllinux minor arch) (platform.Manylinux than on) p q h = absurd h
 platform_part (platform.Musllinux minor arch) (platform.Musllinux than on) p q h =
     subst (λ a. IsPart (musllinux_platforms than a) (musllinux_platforms minor arch)) h.1
     (part_append _ _ (linux_name arch ∷ []) (linux_name arch ∷ [])
     (ends_part _ _ (map_ends (musl_name arch) 0 (than + 1) (minor + 1) (omega (arith, h.0)))) (part_own (linux_name arch ∷ [])))
-platform_part (platform.Musllinux minor arch) (platform.MacOs m n on) p q h = absurd h
-platform_part (platform.Musllinux minor arch) (platform.Windows on) p q h = absurd h
-platform_part (platform.MacOs major minor arch) (platform.Manylinux than on) p q h = absurd h
-platform_part (platform.MacOs major minor arch) (platform.Musllinux than on) p q h = absurd h
 platform_part (platform.MacOs major minor arch) (platform.MacOs m n on) p q h =
     subst (λ a. IsPart (mac_platforms m n a) (mac_platforms major minor arch)) h.1
     (mac_part major minor m n arch (known_mac major minor arch p) (known_mac m n on q) h.0)
-platform_part (platform.MacOs major minor arch) (platform.Windows on) p q h = absurd h
-platform_part (platform.Windows arch) (platform.Manylinux than on) p q h = absurd h
-platform_part (platform.Windows arch) (platform.Musllinux than on) p q h = absurd h
-platform_part (platform.Windows arch) (platform.MacOs m n on) p q h = absurd h
 platform_part (platform.Windows arch) (platform.Windows on) p q h = subst (λ a. IsPart (platforms_of (platform.Windows a)) (platforms_of (platform.Windows arch))) h (part_own (platforms_of (platform.Windows arch)))
+platform_part p q known other h = absurd h
 
 -- ---- tags
 

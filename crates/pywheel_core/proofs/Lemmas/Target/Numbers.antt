@@ -1,5 +1,6 @@
 -- A number in a text of a target is the decimal of its value.
 use Rattle.std.proofs.Common.{◌≡◌, ℕ, zero, suc, ◌<◌, ◌≤◌, ◌^◌, Bool, true, false, ◌==◌, ◌&&◌, ◌||◌, not, nat_lt, if◌then◌else◌, List, [], ◌∷◌, decimal, get_or, length, Some, None, refl, sym, ap, ◌∙◌, inl, inr, arith, rules}
+use Rattle.std.proofs.lemmas.Option.{cond_some}
 use Rattle.std.proofs.lemmas.Bool.Decides.{Decides-eqb, nat_tests}
 use Rattle.std.proofs.lemmas.Bool.{and_parts, cases_Bool}
 use Rattle.std.proofs.lemmas.Fmt.{decimal-digits_value, decimal_digit, decimal_nonempty, digits_decimal, digits_value-decimal, first_decimal}
@@ -9,7 +10,6 @@ use Rattle.std.specs.List.{list_all}
 use Rattle.std.specs.Str.Parse.{digits_value}
 use Rattle.pytext.specs.Digits.{is_number}
 use Rattle.pywheel_core.proofs.Lemmas.Texts.Cuts.{Lacks}
-use Rattle.pywheel_core.proofs.TargetLemmas.{kept_if}
 use Rattle.pywheel_core.specs.Target.Reading.{is_plain_number, number_below}
 
 -- the digits of a number, in std's words
@@ -22,7 +22,7 @@ pub number_says : (limit : ℕ) (text : List ℕ) (n : ℕ) → limit ≤ 1000 �
 unfolding number_below
 number_says limit text n few h =
     let value = digits_value 10 text in
-    let k = kept_if (is_plain_number text && nat_lt value limit) value n h in
+    let k = cond_some (is_plain_number text && nat_lt value limit) value n h in
     let x = and_parts (is_plain_number text) (nat_lt value limit) k.0 in
     let y = and_parts (is_number text) (not (get_or text 0 0 == 48) || (length text == 1)) x.0 in
     let z = and_parts (not (length text == 0)) (list_all is_ascii_digit text) y.0 in

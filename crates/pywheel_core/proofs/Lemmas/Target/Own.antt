@@ -1,7 +1,8 @@
 -- What is made for a target's own Python and ABI stands before the rest of its tags.
 use Rattle.std.proofs.Common.{◌≡◌, true, List, [], ◌∷◌, ◌++◌, ℕ, map, sym, ap, ◌∙◌, ◌⊎◌, inl, inr}
+use Rattle.pywheel_core.proofs.Lemmas.Target.Platforms.{one_of_one}
 use Rattle.std.specs.List.{flat_map}
-use Rattle.pywheel_core.proofs.Lemmas.Target.Compatible.{abi_letters}
+use Rattle.pywheel_core.proofs.Lemmas.Target.Compatible.{IsListed, abi_letters, parted}
 use Rattle.pywheel_core.proofs.Lemmas.Target.Once.{IsTriple, among_in, in_append, in_left, in_map, in_right, in_triples, map_in}
 use Rattle.pywheel_core.specs.Tag.{TagValue, is_among, triples}
 use Rattle.pywheel_core.specs.Target.Compatible.{IsOneOf}
@@ -20,40 +21,15 @@ before_across x y [] ys h k = absurd h
 before_across x y (z ∷ xs) ys (inl p) k = inl (p, in_right y xs ys k)
 before_across x y (z ∷ xs) ys (inr p) k = inr (before_across x y xs ys p k)
 
-one_of_one : (w v : List ℕ) → IsOneOf w (v ∷ []) → w ≡ v
-one_of_one w v (inl e) = e
-one_of_one w v (inr h) = absurd h
-
 -- the tags of a Python and an ABI
 abbrev of_pair : List ℕ → List ℕ → List (List ℕ) → List TagValue
 of_pair python abi platforms = map (λ platform. record { python = python; abi = abi; platform = platform }) platforms
 
-own_platform : (t : TargetValue) (x : TagValue) → IsOwn t.python x → IsOneOf x (target_tags t) → IsOneOf x.platform (platforms_of t.platform)
-unfolding target_tags
-own_platform t x own h =
-    let minor = t.python.minor in
-    let platforms = platforms_of t.platform in
-    let cpython = cpython_name minor in
-    let abis = own_abi t.python ∷ stable_abi t.python ∷ no_abi ∷ [] in
-    let stable = stable_abi t.python ∷ [] in
-    let none = no_abi ∷ [] in
-    let any = any_platform ∷ [] in
-    let first = triples (cpython ∷ []) abis platforms in
-    let second = triples (older_cpythons minor) stable platforms in
-    let third = triples (pythons_3 minor) none platforms in
-    let fourth = triples (cpython ∷ pythons_3 minor) none any in
-    elim (in_append x first (second ++ (third ++ fourth)) h) [
-      | inl p ↦ (in_triples x (cpython ∷ []) abis platforms p).2
-      | inr q ↦ elim (in_append x second (third ++ fourth) q) [
-        | inl p ↦ (in_triples x (older_cpythons minor) stable platforms p).2
-        | inr q ↦ elim (in_append x third fourth q) [
-          | inl p ↦ (in_triples x (pythons_3 minor) none platforms p).2
-          | inr p ↦
-              let r : IsTriple x (cpython ∷ pythons_3 minor) none any = in_triples x (cpython ∷ pythons_3 minor) none any p in
-              absurd (abi_letters t.python (sym own.1 ∙ one_of_one x.abi no_abi r.1))
-        ]
-      ]
-    ]
+own_platform : (t : TargetValue) (x : TagValue) → IsOwn t.python x → IsListed t x → IsOneOf x.platform (platforms_of t.platform)
+own_platform t x own (inl r) = r.2
+own_platform t x own (inr (inl r)) = r.2
+own_platform t x own (inr (inr (inl r))) = r.2
+own_platform t x own (inr (inr (inr r))) = absurd (abi_letters t.python (sym own.1 ∙ one_of_one x.abi no_abi r.1))
 
 same_own : (python : List ℕ) (abi : List ℕ) (x : TagValue) → x.python ≡ python → x.abi ≡ abi → x ≡ record { python = python; abi = abi; platform = x.platform }
 same_own python abi x p a = ap (λ w. record { python = w; abi = x.abi; platform = x.platform }) p ∙ ap (λ w. record { python = python; abi = w; platform = x.platform }) a
@@ -73,7 +49,7 @@ own_first t x y h k own other =
     let third = triples (pythons_3 minor) none platforms in
     let fourth = triples (cpython ∷ pythons_3 minor) none (any_platform ∷ []) in
     let tail = second ++ (third ++ fourth) in
-    let stands : IsOneOf x front = map_in _ x x.platform platforms (own_platform t x own h) (same_own cpython abi x own.0 own.1) in
+    let stands : IsOneOf x front = map_in _ x x.platform platforms (own_platform t x own (parted t x h)) (same_own cpython abi x own.0 own.1) in
     elim (in_append y ((front ++ more) ++ []) tail k) [
       | inl p ↦ elim (in_append y (front ++ more) [] p) [
         | inl q ↦ elim (in_append y front more q) [

@@ -38,13 +38,12 @@ use Rattle.pywheel_core.specs.declared.target.tags.TargetSpans.{TargetSpans}
 
 append_split : {X : Type 0} (a b c d : List X) → length a ≡ length c → a ++ b ≡ c ++ d → (a ≡ c) × (b ≡ d)
 append_split [] b [] d n e = (refl, e)
-append_split [] b (y ∷ c) d n e = absurd (omega (arith, n))
-append_split (x ∷ a) b [] d n e = absurd (omega (arith, n))
 append_split (x ∷ a) b (y ∷ c) d n e =
     let head : x ≡ y = cc in
     let tail : a ++ b ≡ c ++ d = cc in
     let r = append_split a b c d (omega (arith, n)) tail in
     ((λ i. head i ∷ r.0 i), r.1)
+append_split a b c d n e = absurd (omega (arith, n))
 
 pub length_down : (low n : ℕ) → length (down low n) ≡ n - low
 unfolding down
@@ -132,18 +131,11 @@ plain_decimal n h = decimal_by_steps (λ _ ds. IsPlain ds) (λ k small. let e = 
 
 pub linux_plain : (arch : LinuxArch) → IsPlain (linux_arch_name arch)
 linux_plain linux.X86_64 = refl
-linux_plain linux.I686 = refl
-linux_plain linux.Aarch64 = refl
-linux_plain linux.Armv7l = refl
-linux_plain linux.Ppc64le = refl
-linux_plain linux.S390x = refl
-linux_plain linux.Riscv64 = refl
-linux_plain linux.Loongarch64 = refl
+linux_plain arch = refl
 
 windows_plain : (arch : WindowsArch) → IsPlain (windows_name arch)
 windows_plain windows.X86 = refl
-windows_plain windows.Amd64 = refl
-windows_plain windows.Arm64 = refl
+windows_plain arch = refl
 
 -- all of them
 abbrev pub ArePlain : List (List ℕ) → Type 0

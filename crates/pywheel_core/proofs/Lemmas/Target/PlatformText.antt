@@ -1,13 +1,13 @@
 -- What is read as PLATFORM is what the relation says, and the other way round.
 use Rattle.std.proofs.Common.{◌≡◌, ℕ, ◌<◌, Bool, true, false, ◌&&◌, bytes_eq, if◌then◌else◌, List, ◌∷◌, ◌++◌, codes, decimal, Option, Some, None, refl, sym, subst, ap, ◌∙◌, ◌⊎◌, inl, inr, arith}
 use Rattle.std.proofs.lemmas.Bool.{and_parts}
-use Rattle.std.proofs.lemmas.Option.{same_Some}
+use Rattle.std.proofs.lemmas.Option.{cond_some, same_Some}
 use Rattle.std.specs.Cmp.Lexicographic.{bytes_decides}
 use Rattle.pytext.proofs.OptionsLemmas.{bind_some}
 use Rattle.pytext.specs.Options.{◌>>=◌}
 use Rattle.pywheel_core.proofs.Lemmas.Target.Numbers.{decimal_lacks, number_made, number_says}
 use Rattle.pywheel_core.proofs.Lemmas.Texts.Cuts.{Lacks, cut_joined, cut_lacking, cut_says, lacks_both}
-use Rattle.pywheel_core.proofs.TargetLemmas.{kept_if, mac_fits, manylinux_fits, musllinux_fits}
+use Rattle.pywheel_core.proofs.TargetLemmas.{mac_fits, manylinux_fits, musllinux_fits}
 use Rattle.pywheel_core.specs.Target.Grammar.{IsShortName, IsTriple, IsWheelName, PlatformText}
 use Rattle.pywheel_core.specs.Target.Names.{linux_arch_name, mac_arch_name, mac_triple, windows_name, windows_triple}
 use Rattle.pywheel_core.specs.Target.Reading.{apple_platform, glibc_platform, glibc_triple, linux_arch_of, linux_triple, lone_platform, mac_arch_of, mac_platform, msvc_platform, musl_platform, number_below, older_platform, platform_behind, platform_in, platform_of, shaped_platform, triple_platform, undashed_in, undashed_platform, versioned, windows_platform}
@@ -100,7 +100,7 @@ glibc_says text p h =
     let m = bind_some (number_below 100 v.0.1) (λ minor. linux_arch_of v.0.2 >>= λ arch.
     if bytes_eq v.0.0 (codes "2") then Some (platform.Manylinux minor arch) else None) p v.2 in
     let a = bind_some (linux_arch_of v.0.2) (λ arch. if bytes_eq v.0.0 (codes "2") then Some (platform.Manylinux m.0 arch) else None) p m.2 in
-    let k = kept_if (bytes_eq v.0.0 (codes "2")) (platform.Manylinux m.0 a.0) p a.2 in
+    let k = cond_some (bytes_eq v.0.0 (codes "2")) (platform.Manylinux m.0 a.0) p a.2 in
     let major = (bytes_decides v.0.0 (codes "2")).0 k.0 in
     let minor = number_says 100 v.0.1 m.0 (omega arith) m.1 in
     let arch = linux_arch_says v.0.2 a.0 a.1 in
@@ -115,7 +115,7 @@ musl_says text p h =
     let m = bind_some (number_below 100 v.0.1) (λ minor. linux_arch_of v.0.2 >>= λ arch.
     if bytes_eq v.0.0 (codes "1") then Some (platform.Musllinux minor arch) else None) p v.2 in
     let a = bind_some (linux_arch_of v.0.2) (λ arch. if bytes_eq v.0.0 (codes "1") then Some (platform.Musllinux m.0 arch) else None) p m.2 in
-    let k = kept_if (bytes_eq v.0.0 (codes "1")) (platform.Musllinux m.0 a.0) p a.2 in
+    let k = cond_some (bytes_eq v.0.0 (codes "1")) (platform.Musllinux m.0 a.0) p a.2 in
     let major = (bytes_decides v.0.0 (codes "1")).0 k.0 in
     let minor = number_says 100 v.0.1 m.0 (omega arith) m.1 in
     let arch = linux_arch_says v.0.2 a.0 a.1 in
@@ -253,7 +253,7 @@ glibc_triple_says a text p h =
     let v = bind_some (versioned text) (λ parts. number_below 100 parts.2 >>= λ minor.
     if bytes_eq parts.0 (codes "manylinux") && bytes_eq parts.1 (codes "2") then Some (platform.Manylinux minor a) else None) p h in
     let m = bind_some (number_below 100 v.0.2) (λ minor. if bytes_eq v.0.0 (codes "manylinux") && bytes_eq v.0.1 (codes "2") then Some (platform.Manylinux minor a) else None) p v.2 in
-    let k = kept_if (bytes_eq v.0.0 (codes "manylinux") && bytes_eq v.0.1 (codes "2")) (platform.Manylinux m.0 a) p m.2 in
+    let k = cond_some (bytes_eq v.0.0 (codes "manylinux") && bytes_eq v.0.1 (codes "2")) (platform.Manylinux m.0 a) p m.2 in
     let both = and_parts (bytes_eq v.0.0 (codes "manylinux")) (bytes_eq v.0.1 (codes "2")) k.0 in
     let name = (bytes_decides v.0.0 (codes "manylinux")).0 both.0 in
     let major = (bytes_decides v.0.1 (codes "2")).0 both.1 in
@@ -306,7 +306,7 @@ pub platform_says : (text : List ℕ) (p : Platform) → platform_of text ≡ So
 unfolding platform_of
 platform_says text p h =
     let x = bind_some (shaped_platform text) (λ q. if is_platform q then Some q else None) p h in
-    let k = kept_if (is_platform x.0) x.0 p x.2 in
+    let k = cond_some (is_platform x.0) x.0 p x.2 in
     let it : PlatformText text x.0 = record { named = shaped_says text x.0 x.1; known = k.0 } in
     subst (PlatformText text) k.1 it
 
@@ -315,13 +315,7 @@ platform_says text p h =
 linux_arch_made : (a : LinuxArch) → linux_arch_of (linux_arch_name a) ≡ Some a
 unfolding linux_arch_of
 linux_arch_made linux.X86_64 = refl
-linux_arch_made linux.I686 = refl
-linux_arch_made linux.Aarch64 = refl
-linux_arch_made linux.Armv7l = refl
-linux_arch_made linux.Ppc64le = refl
-linux_arch_made linux.S390x = refl
-linux_arch_made linux.Riscv64 = refl
-linux_arch_made linux.Loongarch64 = refl
+linux_arch_made a = refl
 
 mac_arch_made : (a : MacArch) → mac_arch_of (mac_arch_name a) ≡ Some a
 unfolding mac_arch_of
@@ -366,8 +360,7 @@ older_made minor a = ap (λ o. o >>= λ arch. Some (platform.Manylinux minor arc
 windows_made : (a : WindowsArch) → undashed_platform (windows_name a) ≡ Some (platform.Windows a)
 unfolding undashed_platform platform_behind windows_platform lone_platform
 windows_made windows.X86 = refl
-windows_made windows.Amd64 = refl
-windows_made windows.Arm64 = refl
+windows_made a = refl
 
 -- a glibc of an older name
 at_minor : (n minor : ℕ) (a : LinuxArch) (text : List ℕ) → minor ≡ n → undashed_platform text ≡ Some (platform.Manylinux n a) → undashed_platform text ≡ Some (platform.Manylinux minor a)
@@ -387,13 +380,7 @@ wheel_name_made (platform.Windows a) text known is = ap undashed_platform is ∙
 -- no `-` stands in a name of wheels
 arch_undashed : (a : LinuxArch) → Lacks 45 (linux_arch_name a)
 arch_undashed linux.X86_64 = refl
-arch_undashed linux.I686 = refl
-arch_undashed linux.Aarch64 = refl
-arch_undashed linux.Armv7l = refl
-arch_undashed linux.Ppc64le = refl
-arch_undashed linux.S390x = refl
-arch_undashed linux.Riscv64 = refl
-arch_undashed linux.Loongarch64 = refl
+arch_undashed a = refl
 
 mac_arch_undashed : (a : MacArch) → Lacks 45 (mac_arch_name a)
 mac_arch_undashed mac.X86_64 = refl
@@ -401,8 +388,7 @@ mac_arch_undashed mac.Arm64 = refl
 
 windows_undashed : (a : WindowsArch) → Lacks 45 (windows_name a)
 windows_undashed windows.X86 = refl
-windows_undashed windows.Amd64 = refl
-windows_undashed windows.Arm64 = refl
+windows_undashed a = refl
 
 worded_undashed : (front : List ℕ) (a : LinuxArch) → Lacks 45 front → Lacks 45 (front ++ (codes "_" ++ linux_arch_name a))
 worded_undashed front a lead = lacks_both front (codes "_" ++ linux_arch_name a) lead (lacks_both (codes "_") (linux_arch_name a) refl (arch_undashed a))
@@ -463,8 +449,7 @@ triple_made (platform.Musllinux minor a) text known is =
 triple_made (platform.MacOs major minor mac.X86_64) text known is = ap shaped_platform is.2 ∙ (λ i. Some (platform.MacOs (sym is.0 i) (sym is.1 i) mac.X86_64))
 triple_made (platform.MacOs major minor mac.Arm64) text known is = ap shaped_platform is.2 ∙ (λ i. Some (platform.MacOs (sym is.0 i) (sym is.1 i) mac.Arm64))
 triple_made (platform.Windows windows.X86) text known is = ap shaped_platform is
-triple_made (platform.Windows windows.Amd64) text known is = ap shaped_platform is
-triple_made (platform.Windows windows.Arm64) text known is = ap shaped_platform is
+triple_made (platform.Windows a) text known is = ap shaped_platform is
 
 short_name_made : (p : Platform) (text : List ℕ) → IsShortName p text → shaped_platform text ≡ Some p
 unfolding shaped_platform undashed_platform lone_platform

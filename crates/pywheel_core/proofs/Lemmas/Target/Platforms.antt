@@ -21,7 +21,7 @@ use Rattle.pywheel_core.specs.declared.target.platform.WindowsArch.TheVariants a
 
 -- ---- the names of a version of glibc
 
-one_of_one : (w v : List ℕ) → IsOneOf w (v ∷ []) → w ≡ v
+pub one_of_one : (w v : List ℕ) → IsOneOf w (v ∷ []) → w ≡ v
 one_of_one w v (inl e) = e
 one_of_one w v (inr h) = absurd h
 

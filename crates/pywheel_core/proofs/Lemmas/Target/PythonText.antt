@@ -4,14 +4,13 @@ use Rattle.std.proofs.lemmas.Bool.Decides.{nat_tests}
 use Rattle.std.proofs.lemmas.Bool.{and_parts, cases_Bool, or_parts}
 use Rattle.std.proofs.lemmas.List.{append-nil}
 use Rattle.std.proofs.lemmas.List.Folds.{list_any-append}
-use Rattle.std.proofs.lemmas.Option.{same_Some}
+use Rattle.std.proofs.lemmas.Option.{cond_some, same_Some}
 use Rattle.std.specs.Cmp.Lexicographic.{bytes_decides}
 use Rattle.std.specs.List.{list_any}
 use Rattle.pytext.proofs.OptionsLemmas.{bind_some, option_cases}
 use Rattle.pytext.specs.Options.{◌>>=◌}
 use Rattle.pywheel_core.proofs.Lemmas.Target.Numbers.{decimal_lacks, number_made, number_says}
 use Rattle.pywheel_core.proofs.Lemmas.Texts.Cuts.{Lacks, cut_joined, cut_lacking, cut_says, ending_joined, ending_says}
-use Rattle.pywheel_core.proofs.TargetLemmas.{kept_if}
 use Rattle.pywheel_core.specs.Target.Grammar.{IsRelease, PythonText}
 use Rattle.pywheel_core.specs.Target.Reading.{minor_and_micro, number_below, numbers_in, python_in, python_of, python_with, release_of}
 use Rattle.pywheel_core.specs.Target.Value.{is_cpython}
@@ -64,7 +63,7 @@ with_says free text p h = elim (option_cases (release_of text)) [
   | inr f ↦
       let made : CPython = record { minor = f.0.0; micro = f.0.1; is_free_threaded = free } in
       let h2 = rw f.1 at h in
-      let k = kept_if (is_cpython made) made p h2 in
+      let k = cond_some (is_cpython made) made p h2 in
       let it : Says free text made = (release_says text f.0 f.1, refl, k.0) in
       subst (Says free text) k.1 it
 ]

@@ -1,5 +1,5 @@
 -- The text of each tag of a target is read as that tag, and those texts as the list.
-use Rattle.std.proofs.Common.{◌≡◌, ℕ, suc, ◌+◌, ◌<◌, ◌≤◌, Bool, true, false, ◌==◌, ◌&&◌, ◌||◌, ◌^◌, nat_le, nat_lt, if◌then◌else◌, List, [], ◌∷◌, ◌++◌, codes, decimal, fold, length, map, Result, Ok, refl, sym, subst, ap, ◌∙◌, ◌⊎◌, inl, inr, arith}
+use Rattle.std.proofs.Common.{◌≡◌, ℕ, suc, ◌+◌, ◌<◌, ◌≤◌, Bool, true, false, ◌==◌, ◌&&◌, ◌||◌, ◌^◌, nat_le, nat_lt, if◌then◌else◌, List, [], ◌∷◌, ◌++◌, codes, decimal, fold, get_or, length, map, Result, Ok, refl, sym, subst, ap, ◌∙◌, ◌⊎◌, inl, inr, arith}
 use Rattle.std.proofs.lemmas.Bool.Decides.{nat_tests}
 use Rattle.std.proofs.lemmas.Bool.{and_parts, cases_Bool}
 use Rattle.std.proofs.lemmas.List.{map-append}
@@ -9,7 +9,7 @@ use Rattle.std.specs.Str.{str_to_ascii_lowercase}
 use Rattle.pytext.specs.Bytes.{is_word_byte}
 use Rattle.pywheel_core.proofs.Lemmas.Tag.Listing.{tag_made}
 use Rattle.pywheel_core.proofs.Lemmas.Target.Compatible.{all_pure, compatible_of}
-use Rattle.pywheel_core.proofs.Lemmas.Target.Distinct.{added_tags}
+use Rattle.pywheel_core.proofs.Lemmas.Target.Distinct.{added_tags, own_letter, stable_letter}
 use Rattle.pywheel_core.proofs.Lemmas.Target.Parts.{IsPlain, abis_plain, is_plain_byte, platforms_plain, python_bounds, pythons_plain, small_decimal}
 use Rattle.pywheel_core.proofs.Lemmas.Target.Platforms.{runs_in}
 use Rattle.pywheel_core.proofs.Lemmas.Target.Read.{read_known}
@@ -73,19 +73,9 @@ read_tag x p a q = tag_made (tag_text x) x (record {
 abbrev behind : (w a : List ℕ) → w ≡ a → 0 < length a → 0 < length w
 behind w a e h = subst (λ t. 0 < length t) (sym e) h
 
-some_own : (p : CPython) → 0 < length (own_abi p)
-some_own p = by_kind p.is_free_threaded
-  where
-    by_kind : (free : Bool) → 0 < length (if free then cpython_name p.minor ++ codes "t" else cpython_name p.minor)
-    by_kind true = omega arith
-    by_kind false = omega arith
-
-some_stable : (p : CPython) → 0 < length (stable_abi p)
-some_stable p = by_kind p.is_free_threaded
-  where
-    by_kind : (free : Bool) → 0 < length (if free then codes "abi3t" else codes "abi3")
-    by_kind true = omega arith
-    by_kind false = omega arith
+some_letter : (w : List ℕ) → 0 < get_or w 0 0 → 0 < length w
+some_letter [] h = absurd (omega (arith, h))
+some_letter (b ∷ w) h = omega arith
 
 pure_some : (minor : ℕ) (w : List ℕ) → IsPurePython minor w → 0 < length w
 pure_some minor w (inl e) = behind w _ e (omega arith)
@@ -94,9 +84,9 @@ pure_some minor w (inr (inr (older, high, e))) = behind w _ e (omega arith)
 
 pair_parts : (p : CPython) (python abi : List ℕ) → p.minor < 256 → IsPair p python abi → IsPart python × IsPart abi
 pair_parts p python abi small (inl (e, f)) =
-    ((pythons_plain p.minor small python (inl e), behind python _ e (omega arith)), (abis_plain p small abi (inl f), behind abi _ f (some_own p)))
+    ((pythons_plain p.minor small python (inl e), behind python _ e (omega arith)), (abis_plain p small abi (inl f), let x = own_letter p in behind abi _ f (some_letter (own_abi p) (omega (arith, x)))))
 pair_parts p python abi small (inr (inl (older, low, high, e, f))) =
-    ((subst IsPlain (sym e) (small_decimal older (omega arith)), behind python _ e (omega arith)), (abis_plain p small abi (inr (inl f)), behind abi _ f (some_stable p)))
+    ((subst IsPlain (sym e) (small_decimal older (omega arith)), behind python _ e (omega arith)), (abis_plain p small abi (inr (inl f)), let x = stable_letter p in behind abi _ f (some_letter (stable_abi p) (omega (arith, x)))))
 pair_parts p python abi small (inr (inr (pure, f))) =
     ((pythons_plain p.minor small python (all_pure p.minor python pure), pure_some p.minor python pure), (abis_plain p small abi (inr (inr (inl f))), behind abi _ f (omega arith)))
 

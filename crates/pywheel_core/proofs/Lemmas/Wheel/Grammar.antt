@@ -39,12 +39,9 @@ use Rattle.pywheel_core.proofs.Lemmas.Wheel.Versions.{version_taken}
 
 -- ---- lower case keeps `-`
 
-lower_dash : (b : ℕ) → (to_ascii_lowercase b == 45) ≡ (b == 45)
-lower_dash b = lower_eq 45 b (omega arith)
-
 pub lower_lacks : (s : List ℕ) → list_any (λ b. b == 45) (str_to_ascii_lowercase s) ≡ list_any (λ b. b == 45) s
 lower_lacks [] = refl
-lower_lacks (b ∷ s) = λ i. lower_dash b i || lower_lacks s i
+lower_lacks (b ∷ s) = λ i. lower_eq 45 b (omega arith) i || lower_lacks s i
 
 -- ---- three parts with `-` between them
 
