@@ -38,9 +38,11 @@ fn lock_text(alloc: Global, lock: &Lock) -> Result<String, AllocError> {
 }
 
 fn push_head(told: &mut String, lock: &Lock) -> Result<(), AllocError> {
-    push_environments(told, lock.environments())?;
-    let set = lock.requires_python().map(SpecifierSet::text);
-    let (extras, groups, default) = (lock.extras(), lock.groups(), lock.default_groups());
+    let head = lock.head();
+    push_environments(told, head.environments())?;
+    let set = head.requires_python().map(SpecifierSet::text);
+    let extras = head.extras().as_slice();
+    let (groups, default) = (head.groups().as_slice(), head.default_groups().as_slice());
     writeln!(told, "requires-python {set:?}, extras {extras:?}")?;
     writeln!(
         told,

@@ -1,7 +1,6 @@
 -- The entries that were read from the elements that came, and the lock of them.
 use Rattle.std.proofs.Common.{◌≡◌, ◌∙◌, ℕ, suc, ◌+◌, ◌≤◌, ◌<◌, ltb, ltb-true, ltb-false, lt-ltb, le-ltb, Bool, true, false, is_some, codes, List, [], ◌∷◌, ◌++◌, length, Option, Some, None, Result, Ok, Err, ap, refl, sym, arith}
 use Rattle.std.proofs.lemmas.Bool.{ne_eqb, true≢false}
-use Rattle.std.proofs.lemmas.List.{length-append}
 use Rattle.toml.specs.Data.{Data, Items, no_items, item, Members, array, push_item}
 use Rattle.pytext.specs.Results.{◌>>=◌}
 use Rattle.pytoml.specs.Members.{with_elements}
@@ -145,9 +144,24 @@ counted_refusal count es None taken d e room none is h =
     ∙ ap (λ one. at_position (1 + item_count taken) one >>= (λ x. Ok (es ++ x ∷ []))) is
     ∙ ap (λ n. Err (Entry n e)) place) h
 
+-- ---- all elements of a list
+
+-- these, and others behind them
+abbrev pub appended : Items → Items → Items
+appended front no_items = front
+appended front (item d ds) = appended (push_item front d) ds
+
+appended_item : (d : Data) (front rest : Items) → appended (item d front) rest ≡ item d (appended front rest)
+appended_item d front no_items = refl
+appended_item d front (item x xs) = appended_item d (push_item front x) xs
+
+pub appended_all : (items : Items) → appended no_items items ≡ items
+appended_all no_items = refl
+appended_all (item d ds) = appended_item d no_items ds ∙ ap (item d) (appended_all ds)
+
 -- ---- the lock
 
-read_is : (count : ℕ) (es : List EntryValue) (r : Option EntryError) (taken : Items) → HasRead (read_so count es r) taken → (room_for taken >>= (λ room. entries_of 1 taken)) ≡ entries_read (read_so count es r)
+pub read_is : (count : ℕ) (es : List EntryValue) (r : Option EntryError) (taken : Items) → HasRead (read_so count es r) taken → (room_for taken >>= (λ room. entries_of 1 taken)) ≡ entries_read (read_so count es r)
 read_is count es r taken h = by (ltb most_entries (item_count taken)) refl
   where
     by : (b : Bool) → ltb most_entries (item_count taken) ≡ b → (room_for taken >>= (λ room. entries_of 1 taken)) ≡ entries_read (read_so count es r)
@@ -175,7 +189,7 @@ with_is document d ds =
 -- the lock of a document and of the elements that were taken from it
 pub after_is : (document : Members) (p : PackagesValue) (taken : Items) → HasRead p taken
     → lock_in (with_elements (codes "packages") taken document) ≡ lock_after document p
-unfolding lock_after
+unfolding lock_in lock_with
 after_is document p no_items h = let none : p.count ≡ 0 = h.many (omega arith) in rw none
 after_is document p (item d ds) h =
     rw (ne_eqb p.count 0 (λ none. some none)) (with_is document d ds ∙ ap (lock_with document) (read_is p.count p.entries p.refusal (item d ds) h))

@@ -1,4 +1,4 @@
-pub use Rattle.pylock_readers.proofs.ElementLemmas.{after_is}
+pub use Rattle.pylock_readers.proofs.ElementLemmas.{after_is, read_is}
 pub use Rattle.pylock_readers.proofs.TableLemmas.{kept}
 mod FileNameLemmas
 mod TableLemmas

@@ -15,11 +15,11 @@ use Rattle.pywheel_core.specs.Tag.{TagValue, tags_of}
 use Rattle.pywheel_core.specs.declared.error.TagListError.{TagListError}
 use Rattle.pywheel_core.specs.declared.error.TagListError.TheVariants as list
 use Rattle.pywheel_core.proofs.NeverMemory.{tags_never_memory}
-use Rattle.pylock_readers.specs.Entry.Fields.{items_in, marker_field, name_of, optional_field, optional_text_in, or_refused, required_field, require, set_field, text_in}
+use Rattle.pylock_readers.specs.Entry.Fields.{items_in, marker_field, name_of, optional_field, list_in, optional_text_in, or_refused, require, set_field, text_in}
 use Rattle.pylock_readers.specs.Entry.Reading.{entry_in, entry_of, sources_in, table_in, toml_value}
-use Rattle.pylock_readers.specs.Entry.Sources.{archive_of, directory_of, file_of, files_in, vcs_of}
+use Rattle.pylock_readers.specs.Entry.Sources.{archive_of, directory_of, file_of, vcs_of}
 use Rattle.pylock_readers.specs.Environment.{env_in, env_of, from_tags, tag_list_of, member_text_in, members_in, tag_items, texts_in, value_of, with_member, with_members, with_text}
-use Rattle.pylock_readers.specs.Lock.Head.{head_in, is_lock_version, markers_in, names_in}
+use Rattle.pylock_readers.specs.Lock.Head.{head_in, is_lock_version, names_in}
 use Rattle.pylock_readers.specs.Lock.Reading.{at_position, item_count, document_of, entries_in, entries_of, lock_in, lock_of, most_entries, room_for}
 use Rattle.pylock_readers.specs.Text.{utf8_text}
 use Rattle.pylock_readers.specs.declared.error.EntryError.{EntryError}
@@ -30,6 +30,7 @@ use Rattle.pylock_readers.specs.declared.error.HeadKey.TheVariants as head
 use Rattle.pylock_readers.specs.declared.error.LockError.{LockError}
 use Rattle.pylock_readers.specs.declared.error.LockError.TheVariants as lock
 use Rattle.pylock_readers.specs.declared.field.FieldError.{FieldError}
+use Rattle.pylock_readers.specs.declared.field.FieldError.TheVariants as fault
 
 -- a key, and what comes after it
 after_key : {A B E : Type 0} (refusal wrong : E) (field : Result A FieldError) (rest : A → Result B E) → (wrong ≡ refusal → ⊥) → ((x : A) → Never refusal (rest x))
@@ -46,13 +47,13 @@ sources_never_memory vcs directory archive sdist wheels =
     (λ v. after_key entry.Memory (entry.Key key.Directory) (optional_field directory_of directory) _ (λ e. cc e)
     (λ d. after_key entry.Memory (entry.Key key.Archive) (optional_field archive_of archive) _ (λ e. cc e)
     (λ a. after_key entry.Memory (entry.Key key.Sdist) (optional_field file_of sdist) _ (λ e. cc e)
-    (λ s. after_key entry.Memory (entry.Key key.Wheels) (files_in wheels) _ (λ e. cc e) (λ w e. cc e)))))
+    (λ s. after_key entry.Memory (entry.Key key.Wheels) (list_in file_of wheels) _ (λ e. cc e) (λ w e. cc e)))))
 
 entry_never_memory : (d : Data) → Never entry.Memory (entry_in d)
 unfolding entry_in
 entry_never_memory d =
     never_then entry.Memory (table_in d) _ (never_or entry.Memory entry.NotTable (as_table d) (λ e. cc e))
-    (λ ms. after_key entry.Memory entry.Name (required_field (get_member (codes "name") ms) >>= name_of) _ (λ e. cc e)
+    (λ ms. after_key entry.Memory entry.Name (ok_or (get_member (codes "name") ms) fault.Wrong >>= name_of) _ (λ e. cc e)
     (λ name. after_key entry.Memory (entry.Key key.Version) (optional_text_in (get_member (codes "version") ms)) _ (λ e. cc e)
     (λ version. never_then entry.Memory _ _ (sources_never_memory _ _ _ _ _)
     (λ sources. after_key entry.Memory entry.Marker (optional_field marker_field (get_member (codes "marker") ms)) _ (λ e. cc e)
@@ -102,7 +103,7 @@ head_never_memory : (refusal : LockError) (environments requires_python extras g
     → Never refusal (head_in environments requires_python extras groups default_groups)
 unfolding head_in
 head_never_memory refusal environments requires_python extras groups default_groups want =
-    after_key refusal (lock.Head head.Environments) (markers_in environments) _ (differs _ refusal want refl)
+    after_key refusal (lock.Head head.Environments) (list_in marker_field environments) _ (differs _ refusal want refl)
     (λ e. after_key refusal (lock.Head head.RequiresPython) (optional_field set_field requires_python) _ (differs _ refusal want refl)
     (λ r. after_key refusal (lock.Head head.Extras) (names_in extras) _ (differs _ refusal want refl)
     (λ x. after_key refusal (lock.Head head.DependencyGroups) (names_in groups) _ (differs _ refusal want refl)

@@ -7,9 +7,8 @@ ghost use Rattle.pytext.specs.Agreement.{Gives};
 ghost use Rattle.pymark_core.specs.Environment.{empty_environment};
 ghost use Rattle.pymark_core.specs.Variables.{variable_name, variables};
 ghost use Rattle.pylock_readers.specs.Environment.{members_in, tag_items, member_text_in};
-ghost use Rattle.pylock_readers.specs.Environment.{with_member, with_members, texts_in};
-ghost use Rattle.pylock_readers.specs.Environment.{tag_refusal, tag_list_of};
-ghost use Rattle.pylock_readers.specs.Environment.{env_in, value_of, env_of};
+ghost use Rattle.pylock_readers.specs.Environment.{with_members, texts_in, tag_refusal};
+ghost use Rattle.pylock_readers.specs.Environment.{tag_list_of, env_in, value_of, env_of};
 ghost use Rattle.pylock_readers.specs.Input.{input_env_of};
 
 use crate::error::EnvError;
@@ -87,22 +86,15 @@ fn members(value: &Value) -> Result<&Map<String, Value>, EnvError>
     ensures { Gives EnvError.Memory (λ m. members_view m.now.entries) result
         (members_in (view value.now)) }
 {
-    match value.get("environment") {
-        Some(value) => value.as_object().ok_or(EnvError::Shape),
-        None => Err(EnvError::Shape),
-    }
+    let value = value.get("environment").ok_or(EnvError::Shape)?;
+    value.as_object().ok_or(EnvError::Shape)
 }
 
 fn tags(value: &Value) -> Result<&[Value], EnvError>
     ensures { Gives EnvError.Memory (λ v. items_view v.now) result (tag_items (view value.now)) }
 {
-    match value.get("tags") {
-        Some(value) => match value.as_array() {
-            Some(tags) => Ok(tags.as_slice()),
-            None => Err(EnvError::Shape),
-        },
-        None => Err(EnvError::Shape),
-    }
+    let value = value.get("tags").ok_or(EnvError::Shape)?;
+    Ok(value.as_array().ok_or(EnvError::Shape)?.as_slice())
 }
 
 /// The environment where each variable has the text of the member of its name.
@@ -126,23 +118,9 @@ fn set_members(
         (with_members variables.now (members_view members.now.entries) environment.old) }
 {
     for variable in variables {
-        set_member(environment, members, *variable)?;
-    }
-    Ok(())
-}
-
-/// Gives the variable the text of the member of its name, if there is one.
-fn set_member(
-    environment: &mut Environment,
-    members: &Map<String, Value>,
-    variable: Var,
-) -> Result<(), EnvError>
-    ensures { Gives EnvError.Memory (λ _. environment.new) result
-        (with_member variable (members_view members.now.entries) environment.old) }
-{
-    match member_text(members, variable)? {
-        Some(text) => environment.set(variable, text)?,
-        None => {}
+        if let Some(text) = member_text(members, *variable)? {
+            environment.set(*variable, text)?;
+        }
     }
     Ok(())
 }

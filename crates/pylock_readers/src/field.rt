@@ -1,15 +1,14 @@
 //! The fields of a TOML table, taken by value, so that a string of the document moves into the
 //! lock.
 ghost use Rattle.std.specs.Prelude.{◌≡◌, ◌⊎◌, Err, IfErr, IfOk, MatchOption};
-ghost use Rattle.std.specs.Prelude.{None, Ok, Some, option_map, string_bytes};
+ghost use Rattle.std.specs.Prelude.{None, Ok, Result, Some, option_map, string_bytes};
 ghost use Rattle.std.specs.Option.{ForSome, option_transpose};
-ghost use Rattle.toml.specs.Data.{get_member};
+ghost use Rattle.toml.specs.Data.{Data, get_member};
 ghost use Rattle.toml.specs.View.{view, items_view, table_view};
 ghost use Rattle.pytext.specs.Agreement.{Gives};
 ghost use Rattle.pylock_readers.specs.declared.field.FieldError.TheVariants as field;
-ghost use Rattle.pylock_readers.specs.Entry.Fields.{require, text_of, members_of, name_of};
-ghost use Rattle.pylock_readers.specs.Entry.Fields.{text_in};
-ghost use Rattle.pylock_readers.specs.Entry.Fields.{optional_text_in, flag_in, items_in};
+ghost use Rattle.pylock_readers.specs.Entry.Fields.{require, text_of, members_of, name_of, text_in};
+ghost use Rattle.pylock_readers.specs.Entry.Fields.{optional_text_in, flag_in, items_in, list_in};
 ghost use Rattle.pylock_readers.specs.Inner.Tables.{table_without};
 
 use pyver_core::{NormalName, is_name};
@@ -32,6 +31,17 @@ impl<E: Into<AllocError> + Drop> From<E> for FieldError {
     fn from(_refused: E) -> FieldError {
         FieldError::Memory
     }
+}
+
+/// What the value of a key, or an element of a list, is read as.
+pub(crate) trait FromValue: Drop {
+    ghost use Rattle.pylock_readers.specs.declared.field.FieldError.{FieldError};
+
+    /// What a value says as such.
+    ghost form: { Data → Result Self FieldError };
+
+    fn from_value(alloc: Global, value: Value) -> Result<Self, FieldError>
+        ensures { Gives FieldError.Memory (λ read. read) result (form (view value)) };
 }
 
 /// Takes the value of the key, once, and leaves a small one in its place: to take a member out of a
@@ -153,4 +163,21 @@ pub(crate) fn items(alloc: Global, field: Option<Value>) -> Result<Vec<Value>, F
         Some(Value::Array(values)) => Ok(values),
         Some(_) => Err(FieldError::Wrong),
     }
+}
+
+/// What each of a list is read as; nothing where the list is absent.
+#[tactic(auto, using(crate::proofs::PrefixLemmas::prefix_more))]
+pub(crate) fn read_list<T: FromValue>(
+    alloc: Global,
+    field: Option<Value>,
+) -> Result<Vec<T>, FieldError>
+    ensures { Gives FieldError.Memory (λ list. list.items) result
+        (list_in T.form (option_map view field)) }
+{
+    let values = items(alloc, field)?;
+    let mut list = Vec::with_capacity(alloc, values.len())?;
+    for value in values {
+        list.push(T::from_value(alloc, value)?)?;
+    }
+    Ok(list)
 }

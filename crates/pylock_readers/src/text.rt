@@ -8,8 +8,5 @@ ghost use Rattle.pylock_readers.specs.Text.{utf8_text};
 pub(crate) fn as_text(bytes: &[u8]) -> Option<&str>
     ensures { option_copied result ≡ utf8_text bytes.now }
 {
-    match std::str::from_utf8(bytes) {
-        Ok(text) => Some(text),
-        Err(_) => None,
-    }
+    std::str::from_utf8(bytes).ok()
 }

@@ -20,10 +20,6 @@ or_refused wrong (Err e) = Err wrong
 abbrev pub require : Bool → Result ⊤ FieldError
 require test = if test then Ok tt else Err Wrong
 
--- a field that has to be there
-abbrev pub required_field : Option Data → Result Data FieldError
-required_field field = ok_or field Wrong
-
 -- a field that may be absent
 abbrev pub optional_field : {V : Type 0} → (Data → Result V FieldError) → Option Data
     → Result (Option V) FieldError
@@ -41,12 +37,6 @@ read_each form (item d ds) = form d >>= (λ x. read_each form ds >>= (λ xs. Ok 
 abbrev pub text_of : Data → Result (List ℕ) FieldError
 text_of d = ok_or (as_str d) Wrong
 
-abbrev pub flag_of : Data → Result Bool FieldError
-flag_of d = ok_or (as_bool d) Wrong
-
-abbrev pub items_of : Data → Result Items FieldError
-items_of d = ok_or (as_array d) Wrong
-
 abbrev pub members_of : Data → Result Members FieldError
 members_of d = ok_or (as_table d) Wrong
 
@@ -63,15 +53,23 @@ set_field d = text_of d >>= (λ text. or_refused Wrong (parsed_set text))
 -- ---- fields with a form
 
 abbrev pub text_in : Option Data → Result (List ℕ) FieldError
-text_in field = required_field field >>= text_of
+text_in field = ok_or field Wrong >>= text_of
 
 abbrev pub optional_text_in : Option Data → Result (Option (List ℕ)) FieldError
 optional_text_in field = optional_field text_of field
 
 -- a boolean, which is false where it is absent
 abbrev pub flag_in : Option Data → Result Bool FieldError
-flag_in field = optional_field flag_of field >>= (λ flag. Ok (unwrap_or flag false))
+flag_in field =
+    optional_field (λ d. ok_or (as_bool d) Wrong) field >>= (λ flag. Ok (unwrap_or flag false))
 
 -- a list, which is empty where it is absent
 abbrev pub items_in : Option Data → Result Items FieldError
-items_in field = optional_field items_of field >>= (λ items. Ok (unwrap_or items no_items))
+items_in field =
+    optional_field (λ d. ok_or (as_array d) Wrong) field
+    >>= (λ items. Ok (unwrap_or items no_items))
+
+-- a list whose elements are of this form
+abbrev pub list_in : {V : Type 0} → (Data → Result V FieldError) → Option Data
+    → Result (List V) FieldError
+list_in form field = items_in field >>= read_each form

@@ -8,11 +8,11 @@ use Rattle.pyver_core.specs.declared.set.specifier.Specifier.{Specifier}
 use Rattle.pymark_core.specs.Marker.Reading.{MarkerValue}
 use Rattle.pylock_readers.specs.Entry.{VcsValue, DirectoryValue, ArchiveValue, FileValue}
 use Rattle.pylock_readers.specs.Entry.{EntryValue}
-use Rattle.pylock_readers.specs.Entry.Fields.{marker_field, name_of, optional_field}
-use Rattle.pylock_readers.specs.Entry.Fields.{optional_text_in, or_refused, required_field}
-use Rattle.pylock_readers.specs.Entry.Fields.{set_field}
-use Rattle.pylock_readers.specs.Entry.Sources.{vcs_of, directory_of, archive_of, file_of, files_in}
+use Rattle.pylock_readers.specs.Entry.Fields.{list_in, marker_field, name_of, optional_field}
+use Rattle.pylock_readers.specs.Entry.Fields.{optional_text_in, or_refused, set_field}
+use Rattle.pylock_readers.specs.Entry.Sources.{vcs_of, directory_of, archive_of, file_of}
 use Rattle.pylock_readers.specs.declared.field.FieldError.{FieldError}
+use Rattle.pylock_readers.specs.declared.field.FieldError.TheVariants.{Wrong}
 use Rattle.pylock_readers.specs.declared.error.EntryError.{EntryError}
 use Rattle.pylock_readers.specs.declared.error.EntryError.TheVariants as error
 use Rattle.pylock_readers.specs.declared.error.EntryKey.{EntryKey}
@@ -32,9 +32,6 @@ abbrev pub source_in : {V : Type 0} → EntryKey → (Data → Result V FieldErr
     → Result (Option V) EntryError
 source_in key form field = or_refused (error.Key key) (optional_field form field)
 
-abbrev pub wheels_in : Option Data → Result (List FileValue) EntryError
-wheels_in field = or_refused (error.Key key.Wheels) (files_in field)
-
 unfoldable pub sources_in : (vcs directory archive sdist wheels : Option Data)
     → Result SourcesValue EntryError
 sources_in vcs directory archive sdist wheels = do
@@ -42,7 +39,7 @@ sources_in vcs directory archive sdist wheels = do
   directory ← source_in key.Directory directory_of directory
   archive ← source_in key.Archive archive_of archive
   sdist ← source_in key.Sdist file_of sdist
-  wheels ← wheels_in wheels
+  wheels ← or_refused (error.Key key.Wheels) (list_in file_of wheels)
   Ok (record {
     vcs = vcs;
     directory = directory;
@@ -57,7 +54,7 @@ abbrev pub table_in : Data → Result Members EntryError
 table_in d = ok_or (as_table d) error.NotTable
 
 abbrev pub name_in : Option Data → Result (List ℕ) EntryError
-name_in field = or_refused error.Name (required_field field >>= name_of)
+name_in field = or_refused error.Name (ok_or field Wrong >>= name_of)
 
 abbrev pub version_in : Option Data → Result (Option (List ℕ)) EntryError
 version_in field = or_refused (error.Key key.Version) (optional_text_in field)
@@ -67,21 +64,6 @@ marker_in field = or_refused error.Marker (optional_field marker_field field)
 
 abbrev pub requires_python_in : Option Data → Result (Option (List Specifier)) EntryError
 requires_python_in field = or_refused error.RequiresPython (optional_field set_field field)
-
--- the entry that has these sources and conditions
-abbrev pub entry_with : List ℕ → Option (List ℕ) → SourcesValue → Option MarkerValue
-    → Option (List Specifier) → EntryValue
-entry_with name version sources marker requires_python = record {
-  name = name;
-  version = version;
-  vcs = sources.vcs;
-  directory = sources.directory;
-  archive = sources.archive;
-  sdist = sources.sdist;
-  wheels = sources.wheels;
-  marker = marker;
-  requires_python = requires_python;
-}
 
 -- the entry that a member of `packages` is
 unfoldable pub entry_in : Data → Result EntryValue EntryError
@@ -98,7 +80,17 @@ entry_in d = do
       (get_member (codes "wheels") members)
   marker ← marker_in (get_member (codes "marker") members)
   requires_python ← requires_python_in (get_member (codes "requires-python") members)
-  Ok (entry_with name version sources marker requires_python)
+  Ok (record {
+    name = name;
+    version = version;
+    vcs = sources.vcs;
+    directory = sources.directory;
+    archive = sources.archive;
+    sdist = sources.sdist;
+    wheels = sources.wheels;
+    marker = marker;
+    requires_python = requires_python;
+  })
 
 -- the text as a TOML value
 abbrev pub toml_value : List ℕ → Result Data EntryError

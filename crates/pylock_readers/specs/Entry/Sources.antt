@@ -4,10 +4,8 @@ use Rattle.toml.specs.Data.{Data, Members, no_members, member, get_member}
 use Rattle.pytext.specs.Results.{◌>>=◌}
 use Rattle.pylock_readers.specs.Entry.{LocationValue, VcsValue, DirectoryValue, ArchiveValue}
 use Rattle.pylock_readers.specs.Entry.{FileValue}
-use Rattle.pylock_readers.specs.Entry.Fields.{members_of, optional_field, read_each, require}
-use Rattle.pylock_readers.specs.Entry.Fields.{text_of}
-use Rattle.pylock_readers.specs.Entry.Fields.{text_in}
-use Rattle.pylock_readers.specs.Entry.Fields.{optional_text_in, flag_in, items_in}
+use Rattle.pylock_readers.specs.Entry.Fields.{flag_in, members_of, optional_field}
+use Rattle.pylock_readers.specs.Entry.Fields.{optional_text_in, require, text_in, text_of}
 use Rattle.pylock_readers.specs.declared.field.FieldError.{FieldError}
 
 -- the keys `url` and `path`, at least one of them
@@ -67,7 +65,3 @@ file_of d = do
   location ← location_in (get_member (codes "url") file) (get_member (codes "path") file)
   hashes ← hashes_in (get_member (codes "hashes") file)
   Ok (record { name = name; location = location; hashes = hashes })
-
--- the key `wheels`, a list, which is empty where it is absent
-abbrev pub files_in : Option Data → Result (List FileValue) FieldError
-files_in field = items_in field >>= read_each file_of

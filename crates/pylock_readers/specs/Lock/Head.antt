@@ -9,8 +9,8 @@ use Rattle.pytext.specs.Results.{◌>>=◌}
 use Rattle.pyver_core.specs.declared.set.specifier.Specifier.{Specifier}
 use Rattle.pymark_core.specs.Marker.Reading.{MarkerValue}
 use Rattle.pylock_readers.specs.Lock.{HeadValue}
-use Rattle.pylock_readers.specs.Entry.Fields.{items_in, marker_field, name_of, optional_field}
-use Rattle.pylock_readers.specs.Entry.Fields.{or_refused, read_each, require, set_field, text_in}
+use Rattle.pylock_readers.specs.Entry.Fields.{list_in, marker_field, name_of, optional_field}
+use Rattle.pylock_readers.specs.Entry.Fields.{or_refused, require, set_field, text_in}
 use Rattle.pylock_readers.specs.declared.field.FieldError.{FieldError}
 use Rattle.pylock_readers.specs.declared.error.LockError.{LockError}
 use Rattle.pylock_readers.specs.declared.error.LockError.TheVariants as error
@@ -40,20 +40,16 @@ distinct_texts [] = []
 distinct_texts (text ∷ texts) =
     text ∷ filter (λ other. not (bytes_eq other text)) (distinct_texts texts)
 
--- a list of names, normalised, without repeats, which is empty where it is absent
-abbrev pub names_in : Option Data → Result (List (List ℕ)) FieldError
-names_in field = items_in field >>= read_each name_of >>= (λ names. Ok (distinct_texts names))
-
--- a list of markers, which is empty where it is absent
-abbrev pub markers_in : Option Data → Result (List MarkerValue) FieldError
-markers_in field = items_in field >>= read_each marker_field
-
-abbrev pub environments_in : Option Data → Result (List MarkerValue) LockError
-environments_in field = or_refused (error.Head Environments) (markers_in field)
-
 abbrev pub head_requires_python_in : Option Data → Result (Option (List Specifier)) LockError
 head_requires_python_in field =
     or_refused (error.Head RequiresPython) (optional_field set_field field)
+
+abbrev pub environments_in : Option Data → Result (List MarkerValue) LockError
+environments_in field = or_refused (error.Head Environments) (list_in marker_field field)
+
+-- a list of names, normalised, without repeats
+abbrev pub names_in : Option Data → Result (List (List ℕ)) FieldError
+names_in field = list_in name_of field >>= (λ names. Ok (distinct_texts names))
 
 abbrev pub head_names_in : HeadKey → Option Data → Result (List (List ℕ)) LockError
 head_names_in key field = or_refused (error.Head key) (names_in field)

@@ -14,8 +14,7 @@ use Rattle.pylock_readers.specs.Text.{utf8_text}
 use Rattle.pylock_readers.specs.declared.error.EntryError.{EntryError}
 use Rattle.pylock_readers.specs.declared.error.LockError.{LockError}
 use Rattle.pylock_readers.specs.declared.error.LockError.TheVariants.{NotText, Toml, Packages}
-use Rattle.pylock_readers.specs.declared.error.LockError.TheVariants.{TooMany}
-use Rattle.pylock_readers.specs.declared.error.LockError.TheVariants.{Entry}
+use Rattle.pylock_readers.specs.declared.error.LockError.TheVariants.{TooMany, Entry}
 
 -- ---- the list of entries (PEP 751, `packages`)
 

@@ -7,8 +7,7 @@ ghost use Rattle.pylock_readers.specs.Text.{text_pairs};
 
 use crate::entry::hashes::hashes;
 use crate::entry::location::Location;
-use crate::entry::sources::SourceTable;
-use crate::field::{FieldError, into_table, optional_text, take};
+use crate::field::{FieldError, FromValue, into_table, optional_text, take};
 use std::alloc::Global;
 use std::marker::Model;
 use toml::Value;
@@ -82,10 +81,10 @@ impl Archive {
 }
 
 #[tactic(auto, using(crate::proofs::kept), unfolding(crate::specs::Entry::Sources::archive_of))]
-impl SourceTable for Archive {
+impl FromValue for Archive {
     ghost form = { archive_of };
 
-    fn read(alloc: Global, value: Value) -> Result<Archive, FieldError> {
+    fn from_value(alloc: Global, value: Value) -> Result<Archive, FieldError> {
         let mut table = into_table(value)?;
         let location = Location::read(take(&mut table, "url"), take(&mut table, "path"))?;
         let hashes = hashes(alloc, take(&mut table, "hashes"))?;

@@ -3,8 +3,7 @@ ghost use Rattle.std.specs.Prelude.{◌≡◌};
 ghost use Rattle.std.specs.Option.{option_copied};
 ghost use Rattle.pylock_readers.specs.Entry.Sources.{directory_of};
 
-use crate::entry::sources::SourceTable;
-use crate::field::{FieldError, flag, into_table, optional_text, take, text};
+use crate::field::{FieldError, FromValue, flag, into_table, optional_text, take, text};
 use std::alloc::Global;
 use std::marker::Model;
 use toml::Value;
@@ -70,10 +69,10 @@ impl Directory {
 }
 
 #[tactic(auto, using(crate::proofs::kept), unfolding(crate::specs::Entry::Sources::directory_of))]
-impl SourceTable for Directory {
+impl FromValue for Directory {
     ghost form = { directory_of };
 
-    fn read(_alloc: Global, value: Value) -> Result<Directory, FieldError> {
+    fn from_value(_alloc: Global, value: Value) -> Result<Directory, FieldError> {
         let mut table = into_table(value)?;
         let path = text(take(&mut table, "path"))?;
         let editable = flag(take(&mut table, "editable"))?;

@@ -1,5 +1,5 @@
 //! Sdists and wheels.
-ghost use Rattle.std.specs.Prelude.{◌≡◌, option_map, string_bytes, IfOk};
+ghost use Rattle.std.specs.Prelude.{◌≡◌};
 ghost use Rattle.std.specs.Option.{option_copied};
 ghost use Rattle.pylock_readers.specs.Entry.{file_name, place_of};
 ghost use Rattle.pylock_readers.specs.Entry.Sources.{file_of};
@@ -8,9 +8,8 @@ ghost use Rattle.pylock_readers.specs.Text.{text_pairs};
 use crate::entry::file_name::file_name_of;
 use crate::entry::hashes::hashes;
 use crate::entry::location::Location;
-use crate::entry::sources::SourceTable;
-use crate::field::{FieldError, into_table, optional_text, take};
-use std::alloc::{AllocError, Global};
+use crate::field::{FieldError, FromValue, into_table, optional_text, take};
+use std::alloc::Global;
 use std::marker::Model;
 use toml::Value;
 
@@ -100,20 +99,17 @@ impl DistributionFile {
     {
         self.hashes.as_slice()
     }
+}
 
-    /// Takes memory for the file name alone.
-    fn new(
-        alloc: Global,
-        name: Option<String>,
-        location: Location,
-        hashes: Vec<(String, String)>,
-    ) -> Result<DistributionFile, AllocError>
-        ensures { IfOk result (λ f. f ≡ record {
-          name = option_map string_bytes name;
-          location = location;
-          hashes = text_pairs hashes.items;
-        }) }
-    {
+#[tactic(auto, using(crate::proofs::kept), unfolding(crate::specs::Entry::Sources::file_of))]
+impl FromValue for DistributionFile {
+    ghost form = { file_of };
+
+    fn from_value(alloc: Global, value: Value) -> Result<DistributionFile, FieldError> {
+        let mut table = into_table(value)?;
+        let name = optional_text(take(&mut table, "name"))?;
+        let location = Location::read(take(&mut table, "url"), take(&mut table, "path"))?;
+        let hashes = hashes(alloc, take(&mut table, "hashes"))?;
         let file_name = file_name_of(alloc, name.as_deref(), location.path(), location.url())?;
         Ok(DistributionFile {
             name,
@@ -121,18 +117,5 @@ impl DistributionFile {
             hashes,
             file_name,
         })
-    }
-}
-
-#[tactic(auto, using(crate::proofs::kept), unfolding(crate::specs::Entry::Sources::file_of))]
-impl SourceTable for DistributionFile {
-    ghost form = { file_of };
-
-    fn read(alloc: Global, value: Value) -> Result<DistributionFile, FieldError> {
-        let mut table = into_table(value)?;
-        let name = optional_text(take(&mut table, "name"))?;
-        let location = Location::read(take(&mut table, "url"), take(&mut table, "path"))?;
-        let hashes = hashes(alloc, take(&mut table, "hashes"))?;
-        Ok(DistributionFile::new(alloc, name, location, hashes)?)
     }
 }

@@ -1,9 +1,11 @@
 //! All sources of an entry.
-ghost use Rattle.std.specs.Prelude.{◌≡◌, Result, codes, option_map};
-ghost use Rattle.toml.specs.Data.{Data, get_member};
+ghost use Rattle.std.specs.Prelude.{◌≡◌, codes, option_map};
+ghost use Rattle.toml.specs.Data.{get_member};
 ghost use Rattle.toml.specs.View.{view, table_view};
 ghost use Rattle.pytext.specs.Agreement.{Gives};
-ghost use Rattle.pylock_readers.specs.Entry.Reading.{source_in, sources_in, wheels_in};
+ghost use Rattle.pylock_readers.specs.Entry.Fields.{list_in, or_refused};
+ghost use Rattle.pylock_readers.specs.Entry.Reading.{source_in, sources_in};
+ghost use Rattle.pylock_readers.specs.Entry.Sources.{file_of};
 
 use crate::entry::archive::Archive;
 use crate::entry::directory::Directory;
@@ -11,22 +13,11 @@ use crate::entry::file::Sdist;
 use crate::entry::vcs::Vcs;
 use crate::entry::wheels::Wheels;
 use crate::error::{EntryError, EntryKey};
-use crate::field::{FieldError, optional_field, or_refused, take};
+use crate::field::{FromValue, optional_field, or_refused, take};
 use pywheel_core::WheelReader;
 use std::alloc::Global;
 use std::marker::Model;
 use toml::{Table, Value};
-
-/// The table of a source: what the value of one key of an entry has to be.
-pub(crate) trait SourceTable: Drop {
-    ghost use Rattle.pylock_readers.specs.declared.field.FieldError.{FieldError};
-
-    /// What a value says as such a source.
-    ghost form: { Data → Result Self FieldError };
-
-    fn read(alloc: Global, value: Value) -> Result<Self, FieldError>
-        ensures { Gives FieldError.Memory (λ source. source) result (form (view value)) };
-}
 
 /// The sources of an entry. Nearly every entry has one or two, and the others take no room.
 pub(crate) struct Sources {
@@ -95,7 +86,7 @@ impl Sources {
 }
 
 /// The source of a key, in memory of its own.
-fn read_source<S: SourceTable>(
+fn read_source<S: FromValue>(
     alloc: Global,
     key: EntryKey,
     field: Option<Value>,
@@ -103,7 +94,7 @@ fn read_source<S: SourceTable>(
     ensures { Gives EntryError.Memory (option_map (λ b. b.value)) result
         (source_in key S.form (option_map view field)) }
 {
-    let read = |value| Ok(Box::new(alloc, S::read(alloc, value)?)?);
+    let read = |value| Ok(Box::new(alloc, S::from_value(alloc, value)?)?);
     or_refused(EntryError::Key(key), optional_field(field, read))
 }
 
@@ -112,7 +103,8 @@ fn read_wheels(
     field: Option<Value>,
     names: &mut WheelReader,
 ) -> Result<Wheels, EntryError>
-    ensures { Gives EntryError.Memory (λ w. w) result (wheels_in (option_map view field)) }
+    ensures { Gives EntryError.Memory (λ w. w) result
+        (or_refused (EntryError.Key EntryKey.Wheels) (list_in file_of (option_map view field))) }
 {
     let wheels = Wheels::read(alloc, field, names);
     or_refused(EntryError::Key(EntryKey::Wheels), wheels)

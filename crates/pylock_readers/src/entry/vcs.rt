@@ -5,8 +5,7 @@ ghost use Rattle.pylock_readers.specs.Entry.{place_of};
 ghost use Rattle.pylock_readers.specs.Entry.Sources.{vcs_of};
 
 use crate::entry::location::Location;
-use crate::entry::sources::SourceTable;
-use crate::field::{FieldError, into_table, optional_text, take, text};
+use crate::field::{FieldError, FromValue, into_table, optional_text, take, text};
 use std::alloc::Global;
 use std::marker::Model;
 use toml::Value;
@@ -89,10 +88,10 @@ impl Vcs {
 }
 
 #[tactic(auto, using(crate::proofs::kept), unfolding(crate::specs::Entry::Sources::vcs_of))]
-impl SourceTable for Vcs {
+impl FromValue for Vcs {
     ghost form = { vcs_of };
 
-    fn read(_alloc: Global, value: Value) -> Result<Vcs, FieldError> {
+    fn from_value(_alloc: Global, value: Value) -> Result<Vcs, FieldError> {
         let mut table = into_table(value)?;
         let kind = text(take(&mut table, "type"))?;
         let commit_id = text(take(&mut table, "commit-id"))?;

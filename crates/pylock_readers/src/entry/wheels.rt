@@ -1,14 +1,13 @@
 //! The wheels of an entry.
 ghost use Rattle.std.specs.Prelude.{◌≡◌, IfOk, map, option_map};
-ghost use Rattle.toml.specs.View.{view, items_view};
+ghost use Rattle.toml.specs.View.{view};
 ghost use Rattle.pytext.specs.Agreement.{Gives};
 ghost use Rattle.pylock_readers.specs.Entry.{wheel_name};
-ghost use Rattle.pylock_readers.specs.Entry.Fields.{read_each};
-ghost use Rattle.pylock_readers.specs.Entry.Sources.{file_of, files_in};
+ghost use Rattle.pylock_readers.specs.Entry.Fields.{list_in};
+ghost use Rattle.pylock_readers.specs.Entry.Sources.{file_of};
 
-use crate::entry::file::{DistributionFile, WheelFile};
-use crate::entry::sources::SourceTable;
-use crate::field::{FieldError, items};
+use crate::entry::file::WheelFile;
+use crate::field::{FieldError, read_list};
 use pywheel_core::{WheelError, WheelName, WheelReader};
 use std::alloc::{AllocError, Global};
 use std::marker::Model;
@@ -44,10 +43,10 @@ impl Wheels {
         field: Option<Value>,
         names: &mut WheelReader,
     ) -> Result<Wheels, FieldError>
-        ensures { Gives FieldError.Memory (λ w. w) result (files_in (option_map view field)) }
+        ensures { Gives FieldError.Memory (λ w. w) result
+            (list_in file_of (option_map view field)) }
     {
-        let values = items(alloc, field)?;
-        let files = read_files(alloc, values)?;
+        let files = read_list(alloc, field)?;
         let names = read_names(alloc, &files, names)?;
         Ok(Wheels { files, names })
     }
@@ -65,18 +64,6 @@ impl Wheels {
     {
         self.names.as_slice()
     }
-}
-
-#[tactic(auto, using(crate::proofs::PrefixLemmas::prefix_more))]
-fn read_files(alloc: Global, values: Vec<Value>) -> Result<Vec<WheelFile>, FieldError>
-    ensures { Gives FieldError.Memory (λ v. v.items) result
-        (read_each file_of (items_view values.items)) }
-{
-    let mut files = Vec::with_capacity(alloc, values.len())?;
-    for value in values {
-        files.push(DistributionFile::read(alloc, value)?)?;
-    }
-    Ok(files)
 }
 
 fn read_names(

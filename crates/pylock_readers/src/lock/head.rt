@@ -5,12 +5,13 @@ ghost use Rattle.toml.specs.Data.{get_member};
 ghost use Rattle.toml.specs.View.{view, items_view, table_view};
 ghost use Rattle.pytext.specs.Agreement.{Gives};
 ghost use Rattle.pylock_readers.specs.Entry.Fields.{read_each, marker_field, name_of, set_field};
-ghost use Rattle.pylock_readers.specs.Lock.Head.{names_in, markers_in};
-ghost use Rattle.pylock_readers.specs.Lock.Head.{environments_in};
-ghost use Rattle.pylock_readers.specs.Lock.Head.{head_requires_python_in, head_names_in, head_in};
+ghost use Rattle.pylock_readers.specs.Lock.Head.{environments_in, head_in, head_names_in};
+ghost use Rattle.pylock_readers.specs.Lock.Head.{head_requires_python_in, names_in};
 
 use crate::error::{HeadKey, LockError};
-use crate::field::{FieldError, into_name, into_text, items, optional_field, or_refused, take};
+use crate::field::{
+    FieldError, FromValue, into_name, into_text, items, optional_field, or_refused, read_list, take,
+};
 use crate::interner::{Condition, read_set};
 use crate::lock::names::HeadNames;
 use pymark_core::Marker;
@@ -86,7 +87,8 @@ impl Head {
         })
     }
 
-    /// The markers of the key `environments`, in their order.
+    /// The markers of the key `environments`, in their order: the lock is for an environment where
+    /// one of them is true, or for every one where there is none.
     pub fn environments(&self) -> &[Marker]
         ensures { result.now ≡ self.now.environments }
     {
@@ -122,38 +124,23 @@ impl Head {
     }
 }
 
+impl FromValue for Marker {
+    ghost form = { marker_field };
+
+    fn from_value(alloc: Global, value: Value) -> Result<Marker, FieldError> {
+        let text = into_text(value)?;
+        Marker::read(alloc, text.as_str())
+    }
+}
+
 fn read_environments(alloc: Global, field: Option<Value>) -> Result<Vec<Marker>, LockError>
     ensures { Gives LockError.Memory (λ v. v.items) result
         (environments_in (option_map view field)) }
 {
-    let markers = environment_markers(alloc, field);
-    or_refused(LockError::Head(HeadKey::Environments), markers)
-}
-
-fn environment_markers(alloc: Global, field: Option<Value>) -> Result<Vec<Marker>, FieldError>
-    ensures { Gives FieldError.Memory (λ v. v.items) result (markers_in (option_map view field)) }
-{
-    let values = items(alloc, field)?;
-    read_markers(alloc, values)
-}
-
-#[tactic(auto, using(crate::proofs::PrefixLemmas::prefix_more))]
-fn read_markers(alloc: Global, values: Vec<Value>) -> Result<Vec<Marker>, FieldError>
-    ensures { Gives FieldError.Memory (λ v. v.items) result
-        (read_each marker_field (items_view values.items)) }
-{
-    let mut markers = Vec::with_capacity(alloc, values.len())?;
-    for value in values {
-        markers.push(marker(alloc, value)?)?;
-    }
-    Ok(markers)
-}
-
-fn marker(alloc: Global, value: Value) -> Result<Marker, FieldError>
-    ensures { Gives FieldError.Memory (λ m. m) result (marker_field (view value)) }
-{
-    let text = into_text(value)?;
-    Marker::read(alloc, text.as_str())
+    or_refused(
+        LockError::Head(HeadKey::Environments),
+        read_list(alloc, field),
+    )
 }
 
 fn read_requires_python(

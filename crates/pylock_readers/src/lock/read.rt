@@ -1,20 +1,16 @@
 //! Locks from their texts.
-ghost use Rattle.std.specs.Prelude.{◌≡◌, ◌≢◌, ◌⊎◌, Err, IfErr, IfOk, Ok, option_map};
+ghost use Rattle.std.specs.Prelude.{◌≡◌, ◌≢◌, Err, IfErr, IfOk, option_map};
 ghost use Rattle.toml.specs.Data.{no_items};
 ghost use Rattle.toml.specs.View.{view, table_view};
 ghost use Rattle.pytext.specs.Agreement.{Gives};
-ghost use Rattle.pytoml.specs.declared.fault.TomlError.TheVariants as fault;
-ghost use Rattle.pylock_readers.specs.Lock.Head.{created_by_in, is_lock_version};
-ghost use Rattle.pylock_readers.specs.Lock.Head.{lock_version_in};
+ghost use Rattle.pylock_readers.specs.Lock.Head.{created_by_in, is_lock_version, lock_version_in};
 ghost use Rattle.pylock_readers.specs.Lock.Packages.{IsDocument};
 ghost use Rattle.pylock_readers.specs.Lock.Reading.{document_in, document_of, lock_in, lock_of};
 
 use crate::error::LockError;
-use crate::field::{or_refused, take, text};
+use crate::field::{or_refused, text};
 use crate::lock::Lock;
 use crate::lock::elements::Packages;
-use crate::lock::head::Head;
-use crate::lock::packages::read_packages;
 use crate::text::as_text;
 use pytext::is_number;
 use pytoml::{Elements, TomlError, read_table_by_toml, read_table_without};
@@ -46,16 +42,10 @@ impl Lock {
     ///
     /// Takes memory for the lock; strings move from the document to it. The document is freed,
     /// whether it is a lock or not.
-    #[tactic(auto, using(crate::proofs::kept), unfolding(crate::specs::Lock::Reading::lock_in))]
-    pub fn from_document(alloc: Global, mut document: Table) -> Result<Lock, LockError>
+    pub fn from_document(alloc: Global, document: Table) -> Result<Lock, LockError>
         ensures { Gives LockError.Memory (λ l. l) result (lock_in (table_view document)) }
     {
-        require_lock_version(take(&mut document, "lock-version"))?;
-        require_creator(take(&mut document, "created-by"))?;
-        let packages = take(&mut document, "packages");
-        let head = Head::read(alloc, document)?;
-        let entries = read_packages(alloc, packages)?;
-        Ok(Lock::new(head, entries))
+        Packages::new(alloc).into_lock(alloc, document)
     }
 }
 
@@ -86,16 +76,7 @@ pub fn read_document_without<E: Elements>(
 fn document_by_toml(alloc: Global, text: &str) -> Result<Table, LockError>
     ensures { Gives LockError.Memory table_view result (document_of text.now) }
 {
-    or_toml(read_table_by_toml(alloc, text))
-}
-
-/// What was read, where any refusal but that of memory is that the text isn't TOML.
-fn or_toml(read: Result<Table, TomlError>) -> Result<Table, LockError>
-    ensures ok { IfOk result (λ table. read ≡ Ok table) }
-    ensures err { IfErr result (λ e. ((read ≡ Err fault.Syntax) × (e ≡ LockError.Toml))
-        ⊎ (e ≡ LockError.Memory)) }
-{
-    match read {
+    match read_table_by_toml(alloc, text) {
         Ok(table) => Ok(table),
         Err(TomlError::Memory) => Err(LockError::Memory),
         Err(_) => Err(LockError::Toml),
