@@ -2,7 +2,7 @@
 use Rattle.std.proofs.Common.{◌≡◌, cond, Bool, true, false, List, [], ◌∷◌, ◌||◌, refl, sym, ap, ◌∙◌}
 use Rattle.std.proofs.lemmas.Bool.{false≢true}
 use Rattle.std.specs.List.{filter, list_any}
-use Rattle.std.specs.Prelude.{ℕ, codes, map}
+use Rattle.std.specs.Prelude.{map}
 use Rattle.pylock_core.specs.Session.Picks.{SourceValue}
 use Rattle.pylock_audit.specs.Hash.{Hash}
 use Rattle.pylock_audit.specs.Source.{is_told, tested_hashes}

@@ -5,8 +5,8 @@ use Rattle.std.specs.List.{list_all}
 use Rattle.std.specs.Prelude.{codes}
 use Rattle.pylock_shown.proofs.PrintableLemmas.{printable_has_none}
 use Rattle.pylock_shown.specs.Inner.Printable.{is_printable}
+use Rattle.pylock_shown.specs.Visible.{has_control}
 use Rattle.pylock_audit.specs.Source.{hash_text}
-use Rattle.pylock_audit.specs.Unsafe.{has_control}
 
 both : (xs ys : List ℕ) → list_all is_printable xs ≡ true → list_all is_printable ys ≡ true → list_all is_printable (xs ++ ys) ≡ true
 both xs ys first last = list_all-append is_printable xs ys ∙ rw (first, last) refl

@@ -6,7 +6,7 @@ use Rattle.pytext.specs.Results.{◌>>=◌}
 use Rattle.pylock_readers.specs.Lock.{LockValue}
 use Rattle.pylock_readers.specs.Lock.Reading.{document_in, lock_in, lock_of}
 use Rattle.pylock_readers.specs.declared.error.LockError.{LockError}
-use Rattle.pylock_audit.specs.Audit.{audited_of, findings_of, head_findings, lock_findings}
+use Rattle.pylock_audit.specs.Audit.{audited_of, findings_of, head_findings}
 use Rattle.pylock_audit.specs.Finding.{LockFindingValue}
 use Rattle.pylock_audit.specs.Inner.Tables.{audited_from, tables_in, with_findings}
 use Rattle.pylock_audit.specs.Strict.{strict_findings, strict_lock_of, unless_found}
@@ -14,7 +14,7 @@ use Rattle.pylock_audit.specs.declared.scope.Scope.TheVariants.{All, Refused}
 use Rattle.pylock_audit.specs.declared.strict.StrictError.{StrictError}
 use Rattle.pylock_audit.specs.declared.strict.StrictError.TheVariants as refusal
 use Rattle.pylock_audit.proofs.ScopeLemmas.{same_refused}
-use Rattle.pylock_audit.proofs.TableLemmas.{read_once}
+use Rattle.pylock_audit.proofs.TableLemmas.{alone, audited_in, read_once}
 
 -- the lock, unless these findings are refused
 abbrev pub taken : LockValue × List LockFindingValue → Result LockValue StrictError
@@ -23,31 +23,19 @@ taken audited = unless_found (strict_findings audited.1) (Ok audited.0)
 abbrev pub taken_of : Result (LockValue × List LockFindingValue) LockError → Result LockValue StrictError
 taken_of audited = result_map_both (λ a. a) refusal.Lock audited >>= taken
 
-abbrev found_in : Result LockValue LockError → Result Members LockError → Result (List LockFindingValue) LockError
-found_in lock document = do
-  lock ← lock
-  document ← document
-  Ok (lock_findings document lock)
-
 strict_once : (bytes : List ℕ) → strict_lock_of bytes ≡ taken_of (audited_of bytes)
 unfolding audited_of findings_of lock_of
 strict_once bytes = by (document_in bytes)
   where
     by_lock : (document : Members) (lock : Result LockValue LockError)
-        → unless_found (strict_findings (result_unwrap_or (found_in lock (Ok document)) [])) (result_map_both (λ l. l) refusal.Lock lock)
-        ≡ taken_of (do
-          l ← lock
-          d ← Ok document
-          Ok (l, lock_findings d l))
+        → unless_found (strict_findings (result_unwrap_or (audited_in lock (Ok document) >>= alone) [])) (result_map_both (λ l. l) refusal.Lock lock)
+        ≡ taken_of (audited_in lock (Ok document))
     by_lock document (Err e) = refl
     by_lock document (Ok l) = refl
 
     by : (document : Result Members LockError)
-        → unless_found (strict_findings (result_unwrap_or (found_in (document >>= lock_in) document) [])) (result_map_both (λ l. l) refusal.Lock (document >>= lock_in))
-        ≡ taken_of (do
-          l ← document >>= lock_in
-          d ← document
-          Ok (l, lock_findings d l))
+        → unless_found (strict_findings (result_unwrap_or (audited_in (document >>= lock_in) document >>= alone) [])) (result_map_both (λ l. l) refusal.Lock (document >>= lock_in))
+        ≡ taken_of (audited_in (document >>= lock_in) document)
     by (Err e) = refl
     by (Ok d) = by_lock d (lock_in d)
 

@@ -16,33 +16,25 @@ use Rattle.pylock_readers.specs.Inner.Elements.{lock_with}
 use Rattle.pylock_readers.specs.declared.error.LockError.{LockError}
 use Rattle.pylock_readers.proofs.ElementLemmas.{count_push, with_is}
 use Rattle.pylock_readers.specs.declared.error.LockError.TheVariants.{Memory, TooMany}
-use Rattle.pylock_audit.specs.Audit.{audited_of, findings_of, head_findings, head_findings_where, items_at, lock_findings, members_in, of_entries}
-use Rattle.pylock_audit.specs.Entry.{entry_findings}
+use Rattle.pylock_audit.specs.Audit.{audited_of, document_findings, findings_of, head_findings, head_findings_where, lock_findings, members_in, of_entries, of_tables}
+use Rattle.pylock_audit.specs.Entry.{TableValue, entry_findings, of_table}
 use Rattle.pylock_audit.specs.Finding.{LockFindingValue, findings_at}
-use Rattle.pylock_audit.specs.Inner.Tables.{HasLooked, TableValue, document_audited, entry_findings_by, has_no_packages, lock_findings_by, looked_at, of_entries_by, of_table, of_tables, tables_after, tables_in, with_findings}
-use Rattle.pylock_audit.specs.Keys.{is_named, table_keys}
+use Rattle.pylock_audit.specs.Inner.Tables.{HasLooked, document_audited, has_no_packages, looked_at, tables_after, tables_in, with_findings}
+use Rattle.pylock_audit.specs.Keys.{is_named, items_in, table_keys}
 use Rattle.pylock_audit.specs.declared.keys.LockTable.TheVariants as tables
 use Rattle.pylock_audit.specs.declared.scope.Scope.{Scope}
 use Rattle.pylock_audit.specs.declared.scope.Scope.TheVariants.{All}
 
-entries_by_tables : (head : HeadValue) (n : ℕ) (es : List EntryValue) (ds : Items)
-    → of_entries_by All head n es (of_tables ds) ≡ of_entries head n es ds
-entries_by_tables head n [] no_items = refl
-entries_by_tables head n (e ∷ es) no_items = refl
-entries_by_tables head n [] (item d ds) = refl
-entries_by_tables head n (e ∷ es) (item d ds) =
-    ap (λ rest. findings_at n (Some e.name) (entry_findings head (members_in d) e) ++ rest) (entries_by_tables head (suc n) es ds)
-
 -- the findings of entries from a place on, of which this one stands there
 pub next_entry : (asked : Scope) (head : HeadValue) (place : ℕ) (es : List EntryValue) (e : EntryValue) (t : TableValue) (ts : List TableValue)
     → place < length es → e ≡ get_or es place e
-    → of_entries_by asked head (place + 1) (drop place es) (t ∷ ts)
-    ≡ findings_at (place + 1) (Some e.name) (entry_findings_by asked head t e) ++ of_entries_by asked head ((place + 1) + 1) (drop (place + 1) es) ts
+    → of_entries asked head (place + 1) (drop place es) (t ∷ ts)
+    ≡ findings_at (place + 1) (Some e.name) (entry_findings asked head t e) ++ of_entries asked head ((place + 1) + 1) (drop (place + 1) es) ts
 next_entry asked head place es e t ts within here =
     let number : suc (place + 1) ≡ (place + 1) + 1 = omega arith in
-    at_drop_more (λ rest. of_entries_by asked head (place + 1) rest (t ∷ ts)) es place e within
-    ∙ ap (λ x. of_entries_by asked head (place + 1) (x ∷ drop (place + 1) es) (t ∷ ts)) (sym here)
-    ∙ ap (λ n. findings_at (place + 1) (Some e.name) (entry_findings_by asked head t e) ++ of_entries_by asked head n (drop (place + 1) es) ts) number
+    at_drop_more (λ rest. of_entries asked head (place + 1) rest (t ∷ ts)) es place e within
+    ∙ ap (λ x. of_entries asked head (place + 1) (x ∷ drop (place + 1) es) (t ∷ ts)) (sym here)
+    ∙ ap (λ n. findings_at (place + 1) (Some e.name) (entry_findings asked head t e) ++ of_entries asked head n (drop (place + 1) es) ts) number
 
 -- the lock of a head and entries
 abbrev lock_of_parts : HeadValue → List EntryValue → LockValue
@@ -53,7 +45,7 @@ abbrev lock_by : Result ⊤ LockError → Result ⊤ LockError → Result HeadVa
 lock_by version creator head entries = version >>= (λ _. creator >>= (λ _. head >>= (λ head. entries >>= (λ es. Ok (lock_of_parts head es)))))
 
 -- a lock with what it gives
-abbrev Audited : Type 0
+abbrev pub Audited : Type 0
 Audited = LockValue × List LockFindingValue
 
 abbrev beside : (LockValue → List LockFindingValue) → LockValue → Result Audited LockError
@@ -62,8 +54,8 @@ beside found lock = Ok (lock, found lock)
 -- a lock has the findings that it has with these tables, with what those that were looked at gave
 abbrev Same : List LockFindingValue → Result LockValue LockError → Items → Items → Type 0
 Same found lock ds looked =
-    (lock >>= beside (λ lock. found ++ of_entries lock.head 1 lock.entries ds))
-    ≡ (lock >>= beside (λ lock. found ++ of_entries_by All lock.head 1 lock.entries (of_tables looked)))
+    (lock >>= beside (λ lock. found ++ of_entries All lock.head 1 lock.entries (of_tables ds)))
+    ≡ (lock >>= beside (λ lock. found ++ of_entries All lock.head 1 lock.entries (of_tables looked)))
 
 -- room for entries, and the tables that are looked at, where there are too many or not
 abbrev room_unless : Bool → Result ⊤ LockError
@@ -72,18 +64,13 @@ room_unless many = if many then Err TooMany else Ok tt
 abbrev looked_unless : Bool → Items → Items
 looked_unless many ds = if many then no_items else ds
 
-by_entries : (found : List LockFindingValue) (head : HeadValue) (ds : Items) (es : Result (List EntryValue) LockError)
-    → Same found (es >>= (λ es. Ok (lock_of_parts head es))) ds ds
-by_entries found head ds (Err e) = refl
-by_entries found head ds (Ok es) = ap (λ rest. beside (λ lock. found ++ rest) (lock_of_parts head es)) (sym (entries_by_tables head 1 es ds))
-
 by_count : (found : List LockFindingValue) (head : HeadValue) (ds : Items) (many : Bool)
     → Same found ((room_unless many >>= (λ _. entries_of 1 ds)) >>= (λ es. Ok (lock_of_parts head es))) ds (looked_unless many ds)
 by_count found head ds true = refl
-by_count found head ds false = by_entries found head ds (entries_of 1 ds)
+by_count found head ds false = refl
 
 by_steps : (found : List LockFindingValue) (version : Result ⊤ LockError) (creator : Result ⊤ LockError) (head : Result HeadValue LockError) (packages : Option Data)
-    → Same found (lock_by version creator head (packages_in packages >>= (λ ds. room_for ds >>= (λ _. entries_of 1 ds)))) (items_at packages) (looked_at (items_at packages))
+    → Same found (lock_by version creator head (packages_in packages >>= (λ ds. room_for ds >>= (λ _. entries_of 1 ds)))) (items_in packages) (looked_at (items_in packages))
 by_steps found (Err e) creator head packages = refl
 by_steps found (Ok x) (Err e) head packages = refl
 by_steps found (Ok x) (Ok y) (Err e) packages = refl
@@ -98,7 +85,7 @@ by_steps found (Ok x) (Ok y) (Ok head) (Some (table fields)) = refl
 
 -- a document has the findings that the lock has with it
 beside_tables : (document : Members)
-    → (lock_in document >>= beside (lock_findings document)) ≡ document_audited All document
+    → (lock_in document >>= beside (document_findings document)) ≡ document_audited All document
 unfolding lock_in entries_in
 beside_tables document =
     by_steps
@@ -109,17 +96,11 @@ beside_tables document =
     (get_member (codes "packages") document)
 
 -- the lock of a document with its findings
-abbrev audited_in : Result LockValue LockError → Result Members LockError → Result Audited LockError
+abbrev pub audited_in : Result LockValue LockError → Result Members LockError → Result Audited LockError
 audited_in lock document = do
   lock ← lock
   document ← document
-  Ok (lock, lock_findings document lock)
-
-abbrev found_in : Result LockValue LockError → Result Members LockError → Result (List LockFindingValue) LockError
-found_in lock document = do
-  lock ← lock
-  document ← document
-  Ok (lock_findings document lock)
+  Ok (lock, document_findings document lock)
 
 -- the lock that the bytes are with its findings, from the document that they are
 pub read_once : (bytes : List ℕ) → audited_of bytes ≡ (document_in bytes >>= document_audited All)
@@ -132,18 +113,12 @@ read_once bytes = by (document_in bytes)
     by (Ok d) = beside_tables d
 
 -- the findings alone
-abbrev alone : Audited → Result (List LockFindingValue) LockError
+abbrev pub alone : Audited → Result (List LockFindingValue) LockError
 alone audited = Ok audited.1
 
 findings_alone : (bytes : List ℕ) → findings_of bytes ≡ (audited_of bytes >>= alone)
-unfolding audited_of findings_of
-findings_alone bytes = by (lock_of bytes) (document_in bytes)
-  where
-    by : (lock : Result LockValue LockError) (document : Result Members LockError)
-        → found_in lock document ≡ (audited_in lock document >>= alone)
-    by (Err e) document = refl
-    by (Ok lock) (Err e) = refl
-    by (Ok lock) (Ok d) = refl
+unfolding findings_of
+findings_alone bytes = refl
 
 -- what was read, as a definition has it
 abbrev pub Read : Type 0
@@ -225,8 +200,8 @@ looked_is asked document (item d ds) tables looked = by (nat_lt most_entries (it
         → with_findings asked (head_findings_where (has_no_packages tables document) document) (tables_after tables document) (lock_in whole) ≡ document_audited asked whole
     by true is =
         refused_by document d ds
-        (lock_findings_by asked (head_findings_where (has_no_packages tables document) document) (tables_after tables document))
-        (lock_findings_by asked (head_findings whole) (tables_in whole))
+        (lock_findings asked (head_findings_where (has_no_packages tables document) document) (tables_after tables document))
+        (lock_findings asked (head_findings whole) (tables_in whole))
         is
     by false is =
         let came : tables ≡ of_tables (item d ds) = looked (ltb-false most_entries (item_count (item d ds)) is) in

@@ -1,9 +1,9 @@
 -- What a careful reader of a lock would want to be told, though the lock is valid: the findings of
 -- its head and of its entries, in order.
-use Rattle.std.specs.Prelude.{ℕ, Bool, ◌++◌, not, codes, suc, List, [], ◌∷◌, Option, Some, None}
+use Rattle.std.specs.Prelude.{ℕ, Bool, ◌++◌, not, codes, suc, List, [], ◌∷◌, Some, None}
 use Rattle.std.specs.Prelude.{is_none, Result, Ok}
 use Rattle.std.specs.Str.{bytes_eq}
-use Rattle.toml.specs.Data.{Data, Items, Members, array, as_str, get_member, item, no_items}
+use Rattle.toml.specs.Data.{Data, Items, Members, as_str, get_member, item, no_items}
 use Rattle.toml.specs.Data.{no_members, table}
 use Rattle.pytext.specs.Results.{◌>>=◌}
 use Rattle.pylock_readers.specs.Entry.{EntryValue}
@@ -11,14 +11,16 @@ use Rattle.pylock_readers.specs.Lock.{HeadValue, LockValue}
 use Rattle.pylock_readers.specs.Lock.Reading.{document_in, lock_of}
 use Rattle.pylock_readers.specs.declared.error.LockError.{LockError}
 use Rattle.pylock_shown.specs.Hidden.{hidden}
-use Rattle.pylock_audit.specs.Entry.{entry_findings, is_other_form, text_at}
+use Rattle.pylock_audit.specs.Entry.{TableValue, entry_findings, is_other_form, of_table}
 use Rattle.pylock_audit.specs.Finding.{FindingValue, LockFindingValue, finding_where}
 use Rattle.pylock_audit.specs.Finding.{findings_at, findings_each}
-use Rattle.pylock_audit.specs.Keys.{unknown_keys}
+use Rattle.pylock_audit.specs.Keys.{items_at, text_at, unknown_keys}
 use Rattle.pylock_audit.specs.Source.{text_where}
 use Rattle.pylock_audit.specs.Types.{wrong_types}
 use Rattle.pylock_audit.specs.declared.finding.FindingKind.TheVariants as kind
 use Rattle.pylock_audit.specs.declared.keys.LockTable.TheVariants as tables
+use Rattle.pylock_audit.specs.declared.scope.Scope.{Scope}
+use Rattle.pylock_audit.specs.declared.scope.Scope.TheVariants.{All}
 
 -- ---- the head
 
@@ -35,14 +37,6 @@ abbrev pub other_forms : Items → List (List ℕ)
 other_forms no_items = []
 other_forms (item d ds) = other_form_of d ++ other_forms ds
 
--- the list that a key has, or none
-abbrev pub items_at : Option Data → Items
-items_at (Some (array items)) = items
-items_at field = no_items
-
-abbrev pub other_extras : Members → List (List ℕ)
-other_extras document = other_forms (items_at (get_member (codes "extras") document))
-
 -- those of a head whose document names packages or doesn't
 abbrev pub head_findings_where : Bool → Members → List FindingValue
 head_findings_where has_no_packages document =
@@ -50,7 +44,7 @@ head_findings_where has_no_packages document =
     ++ findings_each kind.UnknownKey (unknown_keys tables.Head document)
     ++ findings_each kind.WrongType (wrong_types tables.Head document)
     ++ finding_where has_no_packages kind.NoPackages None
-    ++ findings_each kind.NameForm (other_extras document)
+    ++ findings_each kind.NameForm (other_forms (items_at (codes "extras") document))
 
 abbrev pub head_findings : Members → List FindingValue
 head_findings document =
@@ -63,32 +57,42 @@ abbrev pub members_in : Data → Members
 members_in (table members) = members
 members_in d = no_members
 
--- the findings of entries, the first of which has this number, with the tables that they are
-abbrev pub of_entries : HeadValue → ℕ → List EntryValue → Items → List LockFindingValue
-of_entries head number [] ds = []
-of_entries head number (entry ∷ entries) no_items = []
-of_entries head number (entry ∷ entries) (item d ds) =
-    findings_at number (Some entry.name) (entry_findings head (members_in d) entry)
-    ++ of_entries head (suc number) entries ds
+-- what the tables tell
+abbrev pub of_tables : Items → List TableValue
+of_tables no_items = []
+of_tables (item d ds) = of_table (members_in d) ∷ of_tables ds
+
+-- the findings of entries that are asked for, the first of which has this number, with what their
+-- tables tell
+abbrev pub of_entries : Scope → HeadValue → ℕ → List EntryValue → List TableValue
+    → List LockFindingValue
+of_entries asked head number entries [] = []
+of_entries asked head number [] (tells ∷ others) = []
+of_entries asked head number (entry ∷ entries) (tells ∷ others) =
+    findings_at number (Some entry.name) (entry_findings asked head tells entry)
+    ++ of_entries asked head (suc number) entries others
 
 -- ---- the lock
 
--- the findings of a document and of the lock that it is
-abbrev pub lock_findings : Members → LockValue → List LockFindingValue
-lock_findings document lock =
-    findings_at 0 None (head_findings document)
-    ++ of_entries lock.head 1 lock.entries (items_at (get_member (codes "packages") document))
+-- those of a lock, with these of its head and what the tables of its entries tell
+abbrev pub lock_findings : Scope → List FindingValue → List TableValue → LockValue
+    → List LockFindingValue
+lock_findings asked head tables lock =
+    findings_at 0 None head ++ of_entries asked lock.head 1 lock.entries tables
+
+-- all of a document and of the lock that it is
+abbrev pub document_findings : Members → LockValue → List LockFindingValue
+document_findings document lock =
+    lock_findings All (head_findings document) (of_tables (items_at (codes "packages") document))
+    lock
 
 -- the lock that the bytes are, with its findings, or its refusal
 unfoldable pub audited_of : List ℕ → Result (LockValue × List LockFindingValue) LockError
 audited_of bytes = do
   lock ← lock_of bytes
   document ← document_in bytes
-  Ok (lock, lock_findings document lock)
+  Ok (lock, document_findings document lock)
 
 -- the findings alone
 unfoldable pub findings_of : List ℕ → Result (List LockFindingValue) LockError
-findings_of bytes = do
-  lock ← lock_of bytes
-  document ← document_in bytes
-  Ok (lock_findings document lock)
+findings_of bytes = audited_of bytes >>= (λ audited. Ok audited.1)

@@ -1,5 +1,5 @@
 -- What an entry of a lock gives to each kind of finding.
-use Rattle.std.specs.Prelude.{ℕ, Bool, ◌==◌, ◌-◌, ◌&&◌, ◌||◌, ◌++◌, not, codes, false, drop}
+use Rattle.std.specs.Prelude.{ℕ, Bool, ◌==◌, ◌-◌, ◌&&◌, ◌||◌, ◌++◌, not, codes, true, false, drop}
 use Rattle.std.specs.Prelude.{List, [], ◌∷◌, length, map, Option, Some, None, is_none}
 use Rattle.std.specs.Prelude.{if◌then◌else◌, option_and_then, option_map}
 use Rattle.std.specs.List.{flat_map, list_any}
@@ -7,7 +7,7 @@ use Rattle.std.specs.Option.{option_map_or}
 use Rattle.std.specs.Ordering.{is_eq}
 use Rattle.std.specs.Result.{is_err, result_ok}
 use Rattle.std.specs.Str.{bytes_eq}
-use Rattle.toml.specs.Data.{Members, as_str, get_member}
+use Rattle.toml.specs.Data.{Members}
 use Rattle.pytext.specs.Options.{either}
 use Rattle.pyver_core.specs.Name.{is_name, normal_name}
 use Rattle.pyver_core.specs.Parsed.{parsed_version}
@@ -25,21 +25,23 @@ use Rattle.pylock_readers.specs.Lock.{HeadValue}
 use Rattle.pylock_core.specs.Session.Picks.{SourceValue, sources}
 use Rattle.pylock_core.specs.declared.answer.PickSource.{PickSource}
 use Rattle.pylock_places.specs.FileName.{shown_file_name}
+use Rattle.pylock_places.specs.Shown.{file_label}
 use Rattle.pylock_places.specs.Url.{has_credentials, is_https}
 use Rattle.pylock_shown.specs.Hidden.{hidden}
+use Rattle.pylock_shown.specs.Visible.{has_control}
 use Rattle.pylock_audit.specs.Finding.{FindingValue, findings_each, finding_where, shown_where}
+use Rattle.pylock_audit.specs.Finding.{told_where}
 use Rattle.pylock_audit.specs.EntryKeys.{entry_keys_told}
+use Rattle.pylock_audit.specs.Keys.{text_at}
 use Rattle.pylock_audit.specs.Readings.{differs}
 use Rattle.pylock_audit.specs.Source.{name_where, over_sources, text_where}
-use Rattle.pylock_audit.specs.Unsafe.{has_control}
+use Rattle.pylock_audit.specs.Words.{is_refused}
 use Rattle.pylock_audit.specs.declared.finding.FindingKind.{FindingKind}
 use Rattle.pylock_audit.specs.declared.finding.FindingKind.TheVariants as kind
+use Rattle.pylock_audit.specs.declared.scope.Scope.{Scope}
+use Rattle.pylock_audit.specs.declared.scope.Scope.TheVariants as scope
 
 -- ---- names and versions
-
--- a text that a key has
-abbrev pub text_at : List ℕ → Members → Option (List ℕ)
-text_at key members = option_and_then as_str (get_member key members)
 
 -- a text isn't its own normal form
 abbrev pub is_other_form : List ℕ → Bool
@@ -53,15 +55,24 @@ abbrev pub refused_version : EntryValue → List (List ℕ)
 refused_version entry =
     text_where (λ version. is_err (parsed_version version)) hidden entry.version
 
--- ---- the index
+-- ---- what the table tells
 
--- the key `index`, as it is shown, where it isn't of HTTPS and where it has credentials
-pub record IndexValue : Type 0 where
+-- the findings of its keys and its name; and the key `index` as it is shown, where it isn't of
+-- HTTPS, and where it has credentials
+pub record TableValue : Type 0 where
+  pub told : List FindingValue
   pub not_https : List (List ℕ)
   pub credentials : List (List ℕ)
 
-abbrev pub index_of : Members → IndexValue
-index_of members = record {
+abbrev pub told_by : Members → List FindingValue
+told_by members =
+    findings_each kind.UnknownKey (entry_keys_told kind.UnknownKey members)
+    ++ findings_each kind.WrongType (entry_keys_told kind.WrongType members)
+    ++ findings_each kind.NameForm (other_form members)
+
+abbrev pub of_table : Members → TableValue
+of_table members = record {
+  told = told_by members;
   not_https = text_where (λ url. not (is_https url)) hidden (text_at (codes "index") members);
   credentials = text_where has_credentials hidden (text_at (codes "index") members);
 }
@@ -95,14 +106,6 @@ read_wheels entry = map (λ file. (file, wheel_name file)) entry.wheels
 abbrev pub unnamed_wheel : ReadWheel → List FindingValue
 unnamed_wheel wheel = finding_where (is_none wheel.1) kind.NoWheelName (shown_file_name wheel.0)
 
--- the file name of a wheel whose parts a test finds
-abbrev pub wheel_where : (WheelValue → Bool) → ReadWheel → List (List ℕ)
-wheel_where test wheel =
-    option_map_or (λ parts. name_where (λ name. test parts) wheel.0) wheel.1 []
-
-abbrev pub is_other_name : List ℕ → WheelValue → Bool
-is_other_name name wheel = not (bytes_eq (normal_name wheel.name) name)
-
 -- the version that the files of an entry should have: the entry's, or where it has none that of
 -- its first wheel with a readable name
 abbrev pub first_version : List (Option WheelValue) → Option Parts
@@ -118,9 +121,6 @@ wanted_version entry =
 abbrev pub is_other_version : Option Parts → Parts → Bool
 is_other_version wanted version =
     option_map_or (λ wanted. not (is_eq (version_cmp version wanted))) wanted false
-
-abbrev pub is_other_wheel : Option Parts → WheelValue → Bool
-is_other_wheel wanted wheel = is_other_version wanted wheel.version
 
 -- what the file name of the sdist says
 abbrev pub sdist_name : EntryValue → Option SdistValue
@@ -160,21 +160,33 @@ abbrev pub is_other_sdist : List ℕ → Option SdistValue → List ℕ → Bool
 is_other_sdist name (Some sdist) file = not (bytes_eq sdist.name name)
 is_other_sdist name None file = ends_as_sdist file && not (has_front_of name file)
 
-abbrev pub other_names : Option SdistValue → EntryValue → List (List ℕ)
-other_names sdist entry =
-    flat_map (wheel_where (is_other_name entry.name)) (read_wheels entry)
-    ++ option_map_or (name_where (is_other_sdist entry.name sdist)) entry.sdist []
+-- whether a kind tells of a wheel or an sdist of an entry with this name, by what its file name
+-- says: of another package, or of another version than is wanted
+abbrev pub is_other_wheel : FindingKind → Option Parts → List ℕ → WheelValue → Bool
+is_other_wheel kind.OtherName wanted name wheel = not (bytes_eq (normal_name wheel.name) name)
+is_other_wheel kind wanted name wheel = is_other_version wanted wheel.version
 
--- the file name of an sdist that is of another version than this one
-abbrev pub other_sdist_version : Option Parts → Option SdistValue → EntryValue → List (List ℕ)
-other_sdist_version wanted sdist entry =
-    option_map_or (λ sdist. option_map_or
-    (name_where (λ name. is_other_version wanted sdist.version)) entry.sdist []) sdist []
+abbrev pub is_other_file : FindingKind → Option Parts → List ℕ → Option SdistValue → List ℕ → Bool
+is_other_file kind.OtherName wanted name sdist file = is_other_sdist name sdist file
+is_other_file kind wanted name sdist file =
+    option_map_or (λ sdist. is_other_version wanted sdist.version) sdist false
 
-abbrev pub other_versions : Option SdistValue → EntryValue → List (List ℕ)
-other_versions sdist entry =
-    flat_map (wheel_where (is_other_wheel (wanted_version entry))) (read_wheels entry)
-    ++ other_sdist_version (wanted_version entry) sdist entry
+-- what such a file is called
+abbrev pub other_wheel : FindingKind → Option Parts → List ℕ → ReadWheel → List (List ℕ)
+other_wheel kind wanted name wheel =
+    option_map_or
+    (λ parts. told_where (is_other_wheel kind wanted name parts) (file_label wheel.0)) wheel.1 []
+
+abbrev pub other_sdist : FindingKind → Option Parts → List ℕ → Option SdistValue → FileValue
+    → List (List ℕ)
+other_sdist kind wanted name sdist file =
+    name_where (is_other_file kind wanted name sdist) file
+
+abbrev pub other_files : FindingKind → Option Parts → Option SdistValue → EntryValue
+    → List (List ℕ)
+other_files kind wanted sdist entry =
+    flat_map (other_wheel kind wanted entry.name) (read_wheels entry)
+    ++ option_map_or (other_sdist kind wanted entry.name sdist) entry.sdist []
 
 -- a file name beside others
 abbrev pub with_name : Option (List ℕ) → List (List ℕ) → List (List ℕ)
@@ -201,13 +213,6 @@ same_file_names entry =
 
 -- ---- all of an entry
 
-abbrev pub of_names : Members → EntryValue → List FindingValue
-of_names members entry =
-    findings_each kind.UnknownKey (entry_keys_told kind.UnknownKey members)
-    ++ findings_each kind.WrongType (entry_keys_told kind.WrongType members)
-    ++ findings_each kind.NameForm (other_form members)
-    ++ findings_each kind.Version (refused_version entry)
-
 abbrev pub marker_findings : HeadValue → MarkerValue → List FindingValue
 marker_findings head marker =
     findings_each kind.MarkerExtra (compares comparison_reads_extra marker)
@@ -222,35 +227,46 @@ of_kinds entry =
     finding_where (not (is_any (kinds entry))) kind.NoSource None
     ++ finding_where (has_conflict entry) kind.SeveralSources (Some (kinds_text entry))
 
--- what each of the sources gives to a kind
-abbrev pub over : FindingKind → List (PickSource × SourceValue) → List FindingValue
-over kind list = findings_each kind (over_sources kind list)
-
-abbrev pub of_hashes : List (PickSource × SourceValue) → List FindingValue
-of_hashes list =
-    over kind.NoHash list ++ over kind.WeakHash list ++ over kind.OddHash list
-    ++ over kind.BadHash list
-
 -- those of the file names, where the sdist's says this
 abbrev pub of_file_names_by : Option SdistValue → EntryValue → List FindingValue
 of_file_names_by sdist entry =
     flat_map unnamed_wheel (read_wheels entry)
     ++ unnamed_sdist sdist entry
-    ++ findings_each kind.OtherName (other_names sdist entry)
-    ++ findings_each kind.OtherVersion (other_versions sdist entry)
+    ++ findings_each kind.OtherName
+    (other_files kind.OtherName (wanted_version entry) sdist entry)
+    ++ findings_each kind.OtherVersion
+    (other_files kind.OtherVersion (wanted_version entry) sdist entry)
     ++ findings_each kind.SameFileName (same_file_names entry)
 
 abbrev pub of_file_names : EntryValue → List FindingValue
 of_file_names entry = of_file_names_by (sdist_name entry) entry
 
+-- All findings may be asked for, or those alone that a strict reading refuses. What is found
+-- besides may be much longer than the lock: a file's name stands in the finding of each of its
+-- hashes.
+abbrev pub wants : Scope → FindingKind → Bool
+wants scope.All kind = true
+wants scope.Refused kind = is_refused kind
+
+-- what each of the sources gives to a kind, where that is asked for
+abbrev pub over : Scope → FindingKind → List (PickSource × SourceValue) → List FindingValue
+over asked kind list =
+    if wants asked kind then findings_each kind (over_sources kind list) else []
+
+abbrev pub of_hashes : Scope → List (PickSource × SourceValue) → List FindingValue
+of_hashes asked list =
+    over asked kind.NoHash list ++ over asked kind.WeakHash list
+    ++ over asked kind.OddHash list ++ over asked kind.BadHash list
+
 -- of a kind that looks at the index too, that comes first
-abbrev pub of_sources : IndexValue → List (PickSource × SourceValue) → List FindingValue
-of_sources index list =
-    over kind.UnsafeFileName list ++ over kind.OutsidePath list
-    ++ over kind.UnsafeSubdirectory list
-    ++ findings_each kind.NotHttps index.not_https ++ over kind.NotHttps list
-    ++ findings_each kind.Credentials index.credentials ++ over kind.Credentials list
-    ++ over kind.SecretInUrl list ++ over kind.MovingCommit list
+abbrev pub of_sources : Scope → List (List ℕ) → List (List ℕ) → List (PickSource × SourceValue)
+    → List FindingValue
+of_sources asked not_https credentials list =
+    over asked kind.UnsafeFileName list ++ over asked kind.OutsidePath list
+    ++ over asked kind.UnsafeSubdirectory list
+    ++ findings_each kind.NotHttps not_https ++ over asked kind.NotHttps list
+    ++ findings_each kind.Credentials credentials ++ over asked kind.Credentials list
+    ++ over asked kind.SecretInUrl list ++ over asked kind.MovingCommit list
 
 -- the version where it has a control character, by its path
 abbrev pub controlled_version : EntryValue → List (List ℕ)
@@ -258,13 +274,16 @@ controlled_version entry =
     text_where has_control (λ version. codes "version " ++ hidden version) entry.version
 
 -- the version first, and then each source
-abbrev pub of_controls : EntryValue → List (PickSource × SourceValue) → List FindingValue
-of_controls entry list =
+abbrev pub of_controls : Scope → EntryValue → List (PickSource × SourceValue) → List FindingValue
+of_controls asked entry list =
     findings_each kind.ControlCharacter (controlled_version entry)
-    ++ over kind.ControlCharacter list
+    ++ over asked kind.ControlCharacter list
 
-abbrev pub entry_findings : HeadValue → Members → EntryValue → List FindingValue
-entry_findings head members entry =
-    of_names members entry ++ of_marker head entry ++ of_kinds entry ++ of_hashes (sources entry)
-    ++ of_file_names entry ++ of_sources (index_of members) (sources entry)
-    ++ of_controls entry (sources entry)
+-- those of an entry that are asked for, with what its table tells
+abbrev pub entry_findings : Scope → HeadValue → TableValue → EntryValue → List FindingValue
+entry_findings asked head table entry =
+    table.told ++ findings_each kind.Version (refused_version entry)
+    ++ of_marker head entry ++ of_kinds entry ++ of_hashes asked (sources entry)
+    ++ of_file_names entry
+    ++ of_sources asked table.not_https table.credentials (sources entry)
+    ++ of_controls asked entry (sources entry)

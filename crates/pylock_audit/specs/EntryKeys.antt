@@ -1,9 +1,9 @@
 -- The keys of an entry and of its sources that a kind of finding tells of, each by its path.
 use Rattle.std.specs.Prelude.{ℕ, ◌+◌, ◌++◌, codes, List, [], Option, Some}
-use Rattle.toml.specs.Data.{Data, Items, Members, array, get_member, item, no_items, table}
+use Rattle.toml.specs.Data.{Data, Items, Members, get_member, item, no_items, table}
 use Rattle.pylock_core.specs.declared.answer.PickSource.{PickSource}
 use Rattle.pylock_core.specs.declared.answer.PickSource.TheVariants as source
-use Rattle.pylock_audit.specs.Keys.{unknown_keys}
+use Rattle.pylock_audit.specs.Keys.{items_at, unknown_keys}
 use Rattle.pylock_audit.specs.Types.{wrong_types}
 use Rattle.pylock_audit.specs.declared.finding.FindingKind.{FindingKind}
 use Rattle.pylock_audit.specs.declared.finding.FindingKind.TheVariants as kind
@@ -28,10 +28,6 @@ wheel_keys_told kind place no_items = []
 wheel_keys_told kind place (item d ds) =
     source_keys_told kind (source.Wheel place) (Some d) ++ wheel_keys_told kind (place + 1) ds
 
-abbrev pub wheels_keys_told : FindingKind → Option Data → List (List ℕ)
-wheels_keys_told kind (Some (array items)) = wheel_keys_told kind 0 items
-wheels_keys_told kind field = []
-
 -- those of an entry: its own, and then those of its sources
 abbrev pub entry_keys_told : FindingKind → Members → List (List ℕ)
 entry_keys_told kind entry =
@@ -39,5 +35,5 @@ entry_keys_told kind entry =
     ++ source_keys_told kind source.Vcs (get_member (codes "vcs") entry)
     ++ source_keys_told kind source.Directory (get_member (codes "directory") entry)
     ++ source_keys_told kind source.Archive (get_member (codes "archive") entry)
-    ++ wheels_keys_told kind (get_member (codes "wheels") entry)
+    ++ wheel_keys_told kind 0 (items_at (codes "wheels") entry)
     ++ source_keys_told kind source.Sdist (get_member (codes "sdist") entry)

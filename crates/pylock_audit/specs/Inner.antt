@@ -1,3 +1,2 @@
 pub mod Names
-pub mod Scope
 pub mod Tables

@@ -1,15 +1,31 @@
 -- The keys of a lock that PEP 751 names, and those that it doesn't.
 use Rattle.std.specs.Prelude.{ℕ, Bool, ◌+◌, ◌++◌, not, codes, decimal, filter}
-use Rattle.std.specs.Prelude.{List, [], ◌∷◌, map}
+use Rattle.std.specs.Prelude.{List, [], ◌∷◌, map, Option, Some, option_and_then}
 use Rattle.std.specs.List.{list_any}
 use Rattle.std.specs.Str.{bytes_eq}
-use Rattle.toml.specs.Data.{Members, member}
+use Rattle.toml.specs.Data.{Data, Items, Members, array, as_str, get_member, member, no_items}
 use Rattle.toml.specs.Data.{no_members}
 use Rattle.pylock_core.specs.declared.answer.PickSource.{PickSource}
 use Rattle.pylock_core.specs.declared.answer.PickSource.TheVariants as source
 use Rattle.pylock_shown.specs.Hidden.{hidden}
 use Rattle.pylock_audit.specs.declared.keys.LockTable.{LockTable}
 use Rattle.pylock_audit.specs.declared.keys.LockTable.TheVariants as tables
+
+-- ---- what a key has
+
+-- a text, where it has one
+abbrev pub text_at : List ℕ → Members → Option (List ℕ)
+text_at key members = option_and_then as_str (get_member key members)
+
+-- a list, or none
+abbrev pub items_in : Option Data → Items
+items_in (Some (array items)) = items
+items_in field = no_items
+
+abbrev pub items_at : List ℕ → Members → Items
+items_at key members = items_in (get_member key members)
+
+-- ---- the keys that are named
 
 -- the keys that an sdist or a wheel may have
 abbrev pub file_keys : List (List ℕ)

@@ -14,10 +14,11 @@ use Rattle.pylock_places.specs.Query.{has_secret}
 use Rattle.pylock_places.specs.Shown.{file_label, source_label, source_text}
 use Rattle.pylock_places.specs.Url.{has_credentials, is_https, is_safe_remote}
 use Rattle.pylock_shown.specs.Hidden.{hidden}
+use Rattle.pylock_shown.specs.Visible.{has_control}
 use Rattle.pylock_audit.specs.Finding.{told_where}
 use Rattle.pylock_audit.specs.Hash.{Hash, is_bad, is_odd, is_weak}
 use Rattle.pylock_audit.specs.Keys.{source_path}
-use Rattle.pylock_audit.specs.Unsafe.{has_control, is_outside_path, is_unsafe_name, is_unsafe_path}
+use Rattle.pylock_audit.specs.Unsafe.{is_outside_path, is_unsafe_name, is_unsafe_path}
 use Rattle.pylock_audit.specs.declared.finding.FindingKind.{FindingKind}
 use Rattle.pylock_audit.specs.declared.finding.FindingKind.TheVariants as kind
 

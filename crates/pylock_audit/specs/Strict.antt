@@ -1,36 +1,13 @@
 -- What a strict reading of a lock refuses: findings by which one installer may differ from another.
-use Rattle.std.specs.Prelude.{ℕ, Bool, List, [], ◌∷◌, codes, filter, Result, Err}
-use Rattle.std.specs.List.{list_any}
+use Rattle.std.specs.Prelude.{ℕ, List, [], ◌∷◌, filter, Result, Err}
 use Rattle.std.specs.Result.{result_map_both, result_unwrap_or}
-use Rattle.std.specs.Str.{bytes_eq}
 use Rattle.pylock_readers.specs.Lock.{LockValue}
 use Rattle.pylock_readers.specs.Lock.Reading.{lock_of}
 use Rattle.pylock_audit.specs.Audit.{findings_of}
 use Rattle.pylock_audit.specs.Finding.{LockFindingValue}
-use Rattle.pylock_audit.specs.Words.{finding_word}
-use Rattle.pylock_audit.specs.declared.finding.FindingKind.{FindingKind}
+use Rattle.pylock_audit.specs.Words.{is_refused}
 use Rattle.pylock_audit.specs.declared.strict.StrictError.{StrictError}
 use Rattle.pylock_audit.specs.declared.strict.StrictError.TheVariants as refusal
-
--- the kinds of findings that it refuses, as they are printed
-abbrev pub refused_words : List (List ℕ)
-refused_words =
-    codes "no-packages"
-    ∷ codes "name-form"
-    ∷ codes "version"
-    ∷ codes "marker-extra"
-    ∷ codes "no-source"
-    ∷ codes "several-sources"
-    ∷ codes "no-hash"
-    ∷ codes "no-wheel-name"
-    ∷ codes "no-sdist-name"
-    ∷ codes "other-name"
-    ∷ codes "other-version"
-    ∷ codes "wrong-type"
-    ∷ []
-
-abbrev pub is_refused : FindingKind → Bool
-is_refused kind = list_any (bytes_eq (finding_word kind)) refused_words
 
 -- the findings among these that it refuses, in their order
 abbrev pub strict_findings : List LockFindingValue → List LockFindingValue

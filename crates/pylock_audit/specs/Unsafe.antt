@@ -1,35 +1,17 @@
 -- Texts that do harm where they are used as they stand: names and paths that leave their folder,
 -- and control characters.
 use Rattle.std.specs.Prelude.{ℕ, Bool, true, false, ◌==◌, ◌&&◌, ◌||◌, ◌+◌, ◌-◌, codes, List, []}
-use Rattle.std.specs.Prelude.{◌∷◌, drop, take, Option, Some, None, slice_get, if◌then◌else◌}
+use Rattle.std.specs.Prelude.{◌∷◌, Option, Some, None, slice_get, if◌then◌else◌}
 use Rattle.std.specs.List.{list_any, slice_split}
 use Rattle.std.specs.Str.{bytes_eq, chars}
 use Rattle.pylock_readers.specs.Entry.FileName.{ends_segment}
-use Rattle.pylock_shown.specs.Visible.{is_control}
-
-abbrev pub has_control : List ℕ → Bool
-has_control text = list_any is_control (chars text)
+use Rattle.pylock_shown.specs.Visible.{has_control}
 
 -- a file name that names no file of its folder
 abbrev pub is_unsafe_name : List ℕ → Bool
 is_unsafe_name name =
     list_any ends_segment name || has_control name
     || bytes_eq name (codes ".") || bytes_eq name (codes "..")
-
--- a piece ends here
-abbrev pub ends_piece : List ℕ → Bool
-ends_piece [] = true
-ends_piece (b ∷ rest) = ends_segment b
-
--- the first piece is `..`
-abbrev pub begins_with_parent : List ℕ → Bool
-begins_with_parent text = bytes_eq (take 2 text) (codes "..") && ends_piece (drop 2 text)
-
--- a later piece is `..`
-abbrev pub has_later_parent : List ℕ → Bool
-has_later_parent [] = false
-has_later_parent (b ∷ rest) =
-    (ends_segment b && begins_with_parent rest) || has_later_parent rest
 
 abbrev pub begins_with_root : List ℕ → Bool
 begins_with_root [] = false
@@ -43,11 +25,17 @@ is_colon (Some c) = c == 58
 abbrev pub has_drive : List ℕ → Bool
 has_drive text = is_colon (slice_get (chars text) 1)
 
+-- a piece of the text is `..`
+abbrev pub is_folder_above : List ℕ → Bool
+is_folder_above piece = bytes_eq piece (codes "..")
+
+abbrev pub has_parent : List ℕ → Bool
+has_parent text = list_any is_folder_above (slice_split ends_segment text)
+
 -- a path within a source that leaves the folder that it begins in, or goes up at all
 abbrev pub is_unsafe_path : List ℕ → Bool
 is_unsafe_path text =
-    begins_with_root text || has_drive text
-    || begins_with_parent text || has_later_parent text
+    begins_with_root text || has_drive text || has_parent text
 
 -- ---- outside of a folder
 
@@ -61,9 +49,6 @@ path_pieces windows text = slice_split (cuts_path windows) text
 -- the folder that it stands in
 abbrev pub is_same_folder : List ℕ → Bool
 is_same_folder piece = bytes_eq piece [] || bytes_eq piece (codes ".")
-
-abbrev pub is_folder_above : List ℕ → Bool
-is_folder_above piece = bytes_eq piece (codes "..")
 
 -- these pieces, from so many folders below the first one, climb out of that
 abbrev pub climb_out : ℕ → List (List ℕ) → Bool

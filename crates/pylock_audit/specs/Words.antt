@@ -1,5 +1,7 @@
 -- The kinds of findings, as they are printed.
-use Rattle.std.specs.Prelude.{ℕ, List, codes}
+use Rattle.std.specs.Prelude.{ℕ, Bool, List, [], ◌∷◌, codes}
+use Rattle.std.specs.List.{list_any}
+use Rattle.std.specs.Str.{bytes_eq}
 use Rattle.pylock_audit.specs.declared.finding.FindingKind.{FindingKind}
 use Rattle.pylock_audit.specs.declared.finding.FindingKind.TheVariants as kind
 
@@ -32,3 +34,23 @@ finding_word kind.Credentials = codes "credentials"
 finding_word kind.SecretInUrl = codes "secret-in-url"
 finding_word kind.MovingCommit = codes "moving-commit"
 finding_word kind.ControlCharacter = codes "control-character"
+
+-- those that a strict reading refuses: by such findings one installer may differ from another
+abbrev pub refused_words : List (List ℕ)
+refused_words =
+    codes "no-packages"
+    ∷ codes "name-form"
+    ∷ codes "version"
+    ∷ codes "marker-extra"
+    ∷ codes "no-source"
+    ∷ codes "several-sources"
+    ∷ codes "no-hash"
+    ∷ codes "no-wheel-name"
+    ∷ codes "no-sdist-name"
+    ∷ codes "other-name"
+    ∷ codes "other-version"
+    ∷ codes "wrong-type"
+    ∷ []
+
+abbrev pub is_refused : FindingKind → Bool
+is_refused kind = list_any (bytes_eq (finding_word kind)) refused_words

@@ -6,15 +6,14 @@ ghost use Rattle.pylock_readers.specs.Text.{text_pair, text_pairs};
 ghost use Rattle.pylock_core.specs.Session.Picks.{lent_source};
 ghost use Rattle.pylock_audit.specs.Source.{controlled, controlled_hash, controlled_hashes};
 ghost use Rattle.pylock_audit.specs.Source.{controlled_texts, hash_shown, hash_text, name_key};
-ghost use Rattle.pylock_audit.specs.Unsafe.{has_control};
+ghost use Rattle.pylock_shown.specs.Visible.{has_control};
 
 use crate::finding::push_plain;
 use crate::hash::Hash;
 use crate::keys::source_key_path;
-use crate::unsafe_text::has_control;
 use pylock_core::{PickSource, PickedSource};
 use pylock_shared::LabelledText;
-use pylock_shown::{hidden, is_printable};
+use pylock_shown::{has_control, hidden, is_printable};
 use std::alloc::{AllocError, Global};
 
 /// Adds a text of a key as it is shown, with the path of the key, where it has a control character.

@@ -1,28 +1,23 @@
 //! What an entry of a lock gives to each kind of finding.
 
-ghost use Rattle.std.specs.Prelude.{◌≡◌, ◌++◌, IfOk, OnOk, map, string_bytes};
+ghost use Rattle.std.specs.Prelude.{◌≡◌, ◌++◌, IfOk, OnOk, map};
 ghost use Rattle.std.specs.Result.{is_err};
 ghost use Rattle.pyver_core.specs.Parsed.{parsed_version};
 ghost use Rattle.pylock_core.specs.Session.Picks.{lent_named};
-ghost use Rattle.pylock_audit.specs.Entry.{controlled_version, of_kinds, of_marker};
+ghost use Rattle.pylock_audit.specs.Entry.{controlled_version, entry_findings, of_controls};
+ghost use Rattle.pylock_audit.specs.Entry.{of_hashes, of_kinds, of_marker, of_sources, over};
 ghost use Rattle.pylock_audit.specs.Entry.{refused_version};
-ghost use Rattle.pylock_audit.specs.Finding.{findings_each};
-ghost use Rattle.pylock_audit.specs.Inner.Scope.{of_controls_in, of_hashes_in, of_sources_in};
-ghost use Rattle.pylock_audit.specs.Inner.Scope.{over_in};
-ghost use Rattle.pylock_audit.specs.Inner.Tables.{entry_findings_by, of_names_by};
 
 use crate::files::push_file_names;
-use crate::finding::{
-    Finding, FindingKind, push_each, push_each_labelled, push_where, shown_where,
-};
-use crate::marker::push_compared;
+use crate::finding::{Finding, FindingKind, push_each, push_plain, push_where, shown_where};
+use crate::marker::push_marker;
 use crate::scope::Scope;
 use crate::source::over_sources;
-use crate::tables::{IndexFindings, TableFindings};
-use crate::unsafe_text::has_control;
+use crate::tables::TableFindings;
 use pylock_core::{Entry, Head, NamedSource, sources};
 use pylock_places::joined;
-use pylock_shown::hidden;
+use pylock_shared::LabelledText;
+use pylock_shown::{has_control, hidden};
 use pyver_core::{Version, VersionError};
 use std::alloc::{AllocError, Global};
 
@@ -35,40 +30,26 @@ pub(crate) fn entry_findings(
     entry: &Entry,
 ) -> Result<Vec<Finding>, AllocError>
     ensures { IfOk result (λ findings. findings.items
-        ≡ entry_findings_by asked head.now table entry.now) }
+        ≡ entry_findings asked head.now table entry.now) }
 {
-    let mut findings = Vec::new(alloc);
-    let list = sources(alloc, entry)?;
-    let index = push_names(alloc, &mut findings, table, entry)?;
+    let sources = sources(alloc, entry)?;
+    let list = sources.as_slice();
+    let (told, not_https, credentials) = table.into_parts();
+    let mut findings = told;
+    let versions = refused_version(alloc, entry)?;
+    push_each(&mut findings, FindingKind::Version, versions)?;
     push_marker(alloc, &mut findings, head, entry)?;
     push_kinds(alloc, &mut findings, entry)?;
-    push_hashes(alloc, &mut findings, asked, list.as_slice())?;
+    push_hashes(alloc, &mut findings, asked, list)?;
     push_file_names(alloc, &mut findings, entry)?;
-    push_sources(alloc, &mut findings, asked, index, list.as_slice())?;
-    push_controls(alloc, &mut findings, asked, list.as_slice(), entry)?;
+    push_sources(alloc, &mut findings, asked, not_https, credentials, list)?;
+    push_controls(alloc, &mut findings, asked, list, entry)?;
     Ok(findings)
 }
 
-/// Adds what its keys, its name and its version give, and gives what its index gave.
-fn push_names(
-    alloc: Global,
-    findings: &mut Vec<Finding>,
-    table: TableFindings,
-    entry: &Entry,
-) -> Result<IndexFindings, AllocError>
-    ensures told { OnOk result (findings.new.items
-        ≡ findings.old.items ++ of_names_by table entry.now) }
-    ensures index { IfOk result (λ index. index ≡ table.index) }
-{
-    let index = table.push(findings)?;
-    let versions = refused_version(alloc, entry)?;
-    push_each(findings, FindingKind::Version, versions)?;
-    Ok(index)
-}
-
 /// The version, where it is none.
-fn refused_version(alloc: Global, entry: &Entry) -> Result<Vec<String>, AllocError>
-    ensures { IfOk result (λ list. map string_bytes list.items ≡ refused_version entry.now) }
+fn refused_version(alloc: Global, entry: &Entry) -> Result<Vec<LabelledText>, AllocError>
+    ensures { IfOk result (λ list. list.items ≡ refused_version entry.now) }
 {
     let Some(version) = entry.version() else {
         return Ok(Vec::new(alloc));
@@ -83,22 +64,6 @@ fn is_refused(alloc: Global, version: &str) -> Result<bool, AllocError>
         Ok(_) => Ok(false),
         Err(VersionError::Memory) => Err(AllocError),
         Err(_) => Ok(true),
-    }
-}
-
-/// Adds what its marker gives.
-fn push_marker(
-    alloc: Global,
-    findings: &mut Vec<Finding>,
-    head: &Head,
-    entry: &Entry,
-) -> Result<(), AllocError>
-    ensures { OnOk result (findings.new.items
-        ≡ findings.old.items ++ of_marker head.now entry.now) }
-{
-    match entry.marker() {
-        Some(marker) => push_compared(alloc, findings, head, marker),
-        None => Ok(()),
     }
 }
 
@@ -123,10 +88,10 @@ fn push_over(
     sources: &[NamedSource<'_>],
 ) -> Result<(), AllocError>
     ensures { OnOk result (findings.new.items
-        ≡ findings.old.items ++ over_in asked kind (map lent_named sources.now)) }
+        ≡ findings.old.items ++ over asked kind (map lent_named sources.now)) }
 {
     if asked.wants(kind) {
-        push_each_labelled(findings, kind, over_sources(alloc, kind, sources)?)?;
+        push_each(findings, kind, over_sources(alloc, kind, sources)?)?;
     }
     Ok(())
 }
@@ -139,7 +104,7 @@ fn push_hashes(
     sources: &[NamedSource<'_>],
 ) -> Result<(), AllocError>
     ensures { OnOk result (findings.new.items
-        ≡ findings.old.items ++ of_hashes_in asked (map lent_named sources.now)) }
+        ≡ findings.old.items ++ of_hashes asked (map lent_named sources.now)) }
 {
     push_over(alloc, findings, asked, FindingKind::NoHash, sources)?;
     push_over(alloc, findings, asked, FindingKind::WeakHash, sources)?;
@@ -152,11 +117,12 @@ fn push_sources(
     alloc: Global,
     findings: &mut Vec<Finding>,
     asked: Scope,
-    index: IndexFindings,
+    not_https: Vec<LabelledText>,
+    credentials: Vec<LabelledText>,
     sources: &[NamedSource<'_>],
 ) -> Result<(), AllocError>
-    ensures { OnOk result (findings.new.items
-        ≡ findings.old.items ++ of_sources_in asked index (map lent_named sources.now)) }
+    ensures { OnOk result (findings.new.items ≡ findings.old.items
+        ++ of_sources asked not_https.items credentials.items (map lent_named sources.now)) }
 {
     push_over(alloc, findings, asked, FindingKind::UnsafeFileName, sources)?;
     push_over(alloc, findings, asked, FindingKind::OutsidePath, sources)?;
@@ -167,7 +133,6 @@ fn push_sources(
         FindingKind::UnsafeSubdirectory,
         sources,
     )?;
-    let (not_https, credentials) = index.into_parts();
     push_each(findings, FindingKind::NotHttps, not_https)?;
     push_over(alloc, findings, asked, FindingKind::NotHttps, sources)?;
     push_each(findings, FindingKind::Credentials, credentials)?;
@@ -185,7 +150,7 @@ fn push_controls(
     entry: &Entry,
 ) -> Result<(), AllocError>
     ensures { OnOk result (findings.new.items
-        ≡ findings.old.items ++ of_controls_in asked entry.now (map lent_named sources.now)) }
+        ≡ findings.old.items ++ of_controls asked entry.now (map lent_named sources.now)) }
 {
     let versions = controlled_version(alloc, entry)?;
     push_each(findings, FindingKind::ControlCharacter, versions)?;
@@ -199,14 +164,14 @@ fn push_controls(
 }
 
 /// The version with its path, where it has a control character.
-fn controlled_version(alloc: Global, entry: &Entry) -> Result<Vec<String>, AllocError>
-    ensures { IfOk result (λ list. map string_bytes list.items ≡ controlled_version entry.now) }
+fn controlled_version(alloc: Global, entry: &Entry) -> Result<Vec<LabelledText>, AllocError>
+    ensures { IfOk result (λ list. list.items ≡ controlled_version entry.now) }
 {
     let mut list = Vec::new(alloc);
     match entry.version() {
         Some(version) if has_control(version) => {
             let version = hidden(alloc, version)?;
-            list.push(joined(alloc, "version ", version.as_str())?)?;
+            push_plain(&mut list, joined(alloc, "version ", version.as_str())?)?;
         }
         _ => {}
     }

@@ -1,26 +1,27 @@
 //! The keys of an entry and of its sources that a kind of finding tells of, each by its path.
 
-ghost use Rattle.std.specs.Prelude.{◌≡◌, ◌++◌, IfOk, OnOk, map, option_map, string_bytes};
+ghost use Rattle.std.specs.Prelude.{◌≡◌, ◌++◌, IfOk, OnOk, option_map};
 ghost use Rattle.toml.specs.View.{items_view, table_view, view};
 ghost use Rattle.pylock_audit.specs.EntryKeys.{entry_keys_told, source_keys_told, table_keys_told};
-ghost use Rattle.pylock_audit.specs.EntryKeys.{wheel_keys_told, wheels_keys_told};
+ghost use Rattle.pylock_audit.specs.EntryKeys.{wheel_keys_told};
 
 use crate::finding::FindingKind;
-use crate::keys::{LockTable, field, push_unknown};
+use crate::keys::{LockTable, field, items_at, push_unknown};
 use crate::types::push_wrong_types;
 use pylock_core::PickSource;
+use pylock_shared::LabelledText;
 use std::alloc::{AllocError, Global};
 use toml::{Table, Value};
 
 /// Adds those of a table.
-pub(crate) fn push_of_table(
+fn push_of_table(
     alloc: Global,
-    paths: &mut Vec<String>,
+    paths: &mut Vec<LabelledText>,
     kind: FindingKind,
     table: LockTable,
     members: &Table,
 ) -> Result<(), AllocError>
-    ensures { OnOk result (map string_bytes paths.new.items ≡ map string_bytes paths.old.items
+    ensures { OnOk result (paths.new.items ≡ paths.old.items
         ++ table_keys_told kind table (table_view members.now)) }
 {
     match kind {
@@ -33,12 +34,12 @@ pub(crate) fn push_of_table(
 /// Adds those of a source, which is a table.
 fn push_of_source(
     alloc: Global,
-    paths: &mut Vec<String>,
+    paths: &mut Vec<LabelledText>,
     kind: FindingKind,
     name: PickSource,
     field: Option<&Value>,
 ) -> Result<(), AllocError>
-    ensures { OnOk result (map string_bytes paths.new.items ≡ map string_bytes paths.old.items
+    ensures { OnOk result (paths.new.items ≡ paths.old.items
         ++ source_keys_told kind name (option_map (λ v. view v.now) field.entry)) }
 {
     match field {
@@ -52,26 +53,11 @@ fn push_of_source(
 /// Adds those of the wheels.
 fn push_of_wheels(
     alloc: Global,
-    paths: &mut Vec<String>,
-    kind: FindingKind,
-    field: Option<&Value>,
-) -> Result<(), AllocError>
-    ensures { OnOk result (map string_bytes paths.new.items ≡ map string_bytes paths.old.items
-        ++ wheels_keys_told kind (option_map (λ v. view v.now) field.entry)) }
-{
-    match field {
-        Some(Value::Array(wheels)) => push_of_each(alloc, paths, kind, wheels.as_slice()),
-        _ => Ok(()),
-    }
-}
-
-fn push_of_each(
-    alloc: Global,
-    paths: &mut Vec<String>,
+    paths: &mut Vec<LabelledText>,
     kind: FindingKind,
     wheels: &[Value],
 ) -> Result<(), AllocError>
-    ensures { OnOk result (map string_bytes paths.new.items ≡ map string_bytes paths.old.items
+    ensures { OnOk result (paths.new.items ≡ paths.old.items
         ++ wheel_keys_told kind 0 (items_view wheels.now)) }
 {
     for (place, wheel) in wheels.iter().enumerate() {
@@ -85,9 +71,8 @@ pub(crate) fn entry_keys_told(
     alloc: Global,
     kind: FindingKind,
     entry: &Table,
-) -> Result<Vec<String>, AllocError>
-    ensures { IfOk result (λ paths. map string_bytes paths.items
-        ≡ entry_keys_told kind (table_view entry.now)) }
+) -> Result<Vec<LabelledText>, AllocError>
+    ensures { IfOk result (λ paths. paths.items ≡ entry_keys_told kind (table_view entry.now)) }
 {
     let mut paths = Vec::new(alloc);
     push_of_table(alloc, &mut paths, kind, LockTable::Entry, entry)?;
@@ -97,7 +82,7 @@ pub(crate) fn entry_keys_told(
     push_of_source(alloc, &mut paths, kind, PickSource::Directory, directory)?;
     let archive = field(entry, "archive");
     push_of_source(alloc, &mut paths, kind, PickSource::Archive, archive)?;
-    push_of_wheels(alloc, &mut paths, kind, field(entry, "wheels"))?;
+    push_of_wheels(alloc, &mut paths, kind, items_at(entry, "wheels"))?;
     let sdist = field(entry, "sdist");
     push_of_source(alloc, &mut paths, kind, PickSource::Sdist, sdist)?;
     Ok(paths)

@@ -1,26 +1,26 @@
 //! What the file names of an entry say of the package and of each other.
 
-ghost use Rattle.std.specs.Prelude.{◌≡◌, ◌++◌, [], IfOk, List, OnOk, Some, map, slice_get};
-ghost use Rattle.std.specs.Prelude.{string_bytes, true, ℕ};
+ghost use Rattle.std.specs.Prelude.{◌≡◌, ◌++◌, [], IfOk, List, OnOk, Some, slice_get, ℕ};
 ghost use Rattle.std.specs.BTreeSet.{contains_text};
 ghost use Rattle.std.specs.List.{flat_map, list_any};
 ghost use Rattle.std.specs.Option.{option_copied, option_map_or};
 ghost use Rattle.std.specs.Str.{bytes_eq};
 ghost use Rattle.pylock_readers.specs.Entry.{file_name, wheel_name};
 ghost use Rattle.pylock_audit.specs.Entry.{ends, ends_as_sdist, first_version, has_front_of};
-ghost use Rattle.pylock_audit.specs.Entry.{is_name_of, is_other_name, is_other_sdist};
+ghost use Rattle.pylock_audit.specs.Entry.{is_name_of, is_other_file, is_other_sdist};
 ghost use Rattle.pylock_audit.specs.Entry.{is_other_version, is_other_wheel, of_file_names};
-ghost use Rattle.pylock_audit.specs.Entry.{of_file_names_by};
-ghost use Rattle.pylock_audit.specs.Entry.{other_names, other_sdist_version, other_versions};
-ghost use Rattle.pylock_audit.specs.Entry.{read_wheels, same_file_names, same_names, sdist_name};
-ghost use Rattle.pylock_audit.specs.Entry.{unnamed_sdist, unnamed_wheel, wanted_version};
-ghost use Rattle.pylock_audit.specs.Entry.{wheel_where, with_name, with_names};
+ghost use Rattle.pylock_audit.specs.Entry.{of_file_names_by, other_files, other_sdist};
+ghost use Rattle.pylock_audit.specs.Entry.{other_wheel, read_wheels, same_file_names, same_names};
+ghost use Rattle.pylock_audit.specs.Entry.{sdist_name, unnamed_sdist, unnamed_wheel};
+ghost use Rattle.pylock_audit.specs.Entry.{wanted_version, with_name, with_names};
+ghost use Rattle.pylock_audit.specs.Finding.{findings_each};
 ghost use Rattle.pylock_audit.specs.Inner.Names.{Holds};
 ghost use Rattle.pylock_audit.specs.Source.{name_where};
 
-use crate::finding::{Finding, FindingKind, push_each, push_where};
+use crate::finding::{Finding, FindingKind, push_each, push_plain, push_where};
 use pylock_core::{DistributionFile, Entry, Sdist, WheelFile};
 use pylock_places::{file_label, shown_file_name};
+use pylock_shared::LabelledText;
 use pylock_shown::around;
 use pyver_core::{Version, VersionError, is_name, normal_name};
 use pywheel_core::{SdistError, SdistName, WheelName};
@@ -68,10 +68,24 @@ fn push_by_sdist(
 {
     push_unnamed(alloc, findings, entry)?;
     push_unnamed_sdist(alloc, findings, entry, sdist)?;
-    let names = other_names(alloc, entry, sdist)?;
-    push_each(findings, FindingKind::OtherName, names)?;
-    let versions = other_versions(alloc, entry, sdist)?;
-    push_each(findings, FindingKind::OtherVersion, versions)?;
+    let wanted = wanted_version(alloc, entry)?;
+    let version = wanted.as_ref();
+    push_others(
+        alloc,
+        findings,
+        FindingKind::OtherName,
+        version,
+        entry,
+        sdist,
+    )?;
+    push_others(
+        alloc,
+        findings,
+        FindingKind::OtherVersion,
+        version,
+        entry,
+        sdist,
+    )?;
     let names = same_names(alloc, entry)?;
     push_each(findings, FindingKind::SameFileName, names)
 }
@@ -135,89 +149,109 @@ fn push_unnamed_sdist(
     push_where(findings, true, FindingKind::NoSdistName, file_name)
 }
 
-// ---- other packages
+// ---- other packages and versions
 
-/// The file names of another package.
-fn other_names(
+/// Adds the files of another package or of another version, as this kind of finding tells.
+fn push_others(
     alloc: Global,
+    findings: &mut Vec<Finding>,
+    kind: FindingKind,
+    wanted: Option<&Version>,
     entry: &Entry,
     sdist: Option<&SdistName>,
-) -> Result<Vec<String>, AllocError>
-    ensures { IfOk result (λ list. map string_bytes list.items
-        ≡ other_names (option_copied sdist.entry) entry.now) }
+) -> Result<(), AllocError>
+    ensures { OnOk result (findings.new.items ≡ findings.old.items ++ findings_each kind
+        (other_files kind (option_copied wanted.entry) (option_copied sdist.entry) entry.now)) }
 {
     let mut list = Vec::new(alloc);
     for (place, file) in entry.wheels().iter().enumerate() {
         let name = name_at(entry, place, file);
-        push_other_wheel(alloc, &mut list, entry.name(), file, name)?;
+        push_other_wheel(alloc, &mut list, kind, wanted, entry.name(), file, name)?;
     }
-    push_other_sdist(alloc, &mut list, entry.name(), sdist, entry.sdist())?;
-    Ok(list)
+    if let Some(file) = entry.sdist() {
+        push_other_sdist(alloc, &mut list, kind, wanted, entry.name(), sdist, file)?;
+    }
+    push_each(findings, kind, list)
 }
 
-/// Adds the file name of a wheel, where that is of another package than this one.
+/// Adds what a wheel is called, where the kind tells of what its file name says.
 fn push_other_wheel(
     alloc: Global,
-    list: &mut Vec<String>,
+    list: &mut Vec<LabelledText>,
+    kind: FindingKind,
+    wanted: Option<&Version>,
     name: &str,
     file: &WheelFile,
     wheel: Option<&WheelName>,
 ) -> Result<(), AllocError>
-    ensures { OnOk result (map string_bytes list.new.items ≡ map string_bytes list.old.items
-        ++ wheel_where (is_other_name name.now) (file.now, option_copied wheel.entry)) }
+    ensures { OnOk result (list.new.items ≡ list.old.items
+        ++ other_wheel kind (option_copied wanted.entry) name.now
+        (file.now, option_copied wheel.entry)) }
 {
     let Some(parts) = wheel else {
         return Ok(());
     };
-    if is_other_name(alloc, name, parts)? {
-        push_file_name(alloc, list, file)?;
+    if is_other_wheel(alloc, kind, wanted, name, parts)? {
+        push_plain(list, file_label(alloc, file)?)?;
     }
     Ok(())
 }
 
-fn is_other_name(alloc: Global, name: &str, wheel: &WheelName) -> Result<bool, AllocError>
-    ensures { IfOk result (λ other. other ≡ is_other_name name.now wheel.now) }
-{
-    Ok(normal_name(alloc, wheel.name())?.as_str() != name)
-}
-
-/// Adds what a file is called, where it has a file name.
-fn push_file_name(
+fn is_other_wheel(
     alloc: Global,
-    list: &mut Vec<String>,
-    file: &DistributionFile,
-) -> Result<(), AllocError>
-    ensures { OnOk result (map string_bytes list.new.items
-        ≡ map string_bytes list.old.items ++ name_where (λ name. true) file.now) }
+    kind: FindingKind,
+    wanted: Option<&Version>,
+    name: &str,
+    wheel: &WheelName,
+) -> Result<bool, AllocError>
+    ensures { IfOk result (λ other. other
+        ≡ is_other_wheel kind (option_copied wanted.entry) name.now wheel.now) }
 {
-    match file.file_name() {
-        Some(_) => Ok(list.push(file_label(alloc, file)?)?),
-        None => Ok(()),
+    match kind {
+        FindingKind::OtherName => Ok(normal_name(alloc, wheel.name())?.as_str() != name),
+        _ => Ok(is_other_version(wanted, wheel.version())),
     }
 }
 
-/// Adds the file name of the sdist, where that is of another package than this one.
+/// Adds what the sdist is called, where the kind tells of its file name, which says this.
 fn push_other_sdist(
     alloc: Global,
-    list: &mut Vec<String>,
+    list: &mut Vec<LabelledText>,
+    kind: FindingKind,
+    wanted: Option<&Version>,
     name: &str,
     sdist: Option<&SdistName>,
-    file: Option<&Sdist>,
+    file: &Sdist,
 ) -> Result<(), AllocError>
-    ensures { OnOk result (map string_bytes list.new.items ≡ map string_bytes list.old.items
-        ++ option_map_or (name_where (is_other_sdist name.now (option_copied sdist.entry)))
-        (option_copied file.entry) []) }
+    ensures { OnOk result (list.new.items ≡ list.old.items
+        ++ other_sdist kind (option_copied wanted.entry) name.now (option_copied sdist.entry)
+        file.now) }
 {
-    let Some(file) = file else {
-        return Ok(());
-    };
     let Some(own) = file.file_name() else {
         return Ok(());
     };
-    if is_other_sdist(alloc, name, sdist, own)? {
-        list.push(file_label(alloc, file)?)?;
+    if is_other_file(alloc, kind, wanted, name, sdist, own)? {
+        push_plain(list, file_label(alloc, file)?)?;
     }
     Ok(())
+}
+
+fn is_other_file(
+    alloc: Global,
+    kind: FindingKind,
+    wanted: Option<&Version>,
+    name: &str,
+    sdist: Option<&SdistName>,
+    file: &str,
+) -> Result<bool, AllocError>
+    ensures { IfOk result (λ other. other ≡ is_other_file kind (option_copied wanted.entry)
+        name.now (option_copied sdist.entry) file.now) }
+{
+    match (kind, sdist) {
+        (FindingKind::OtherName, _) => is_other_sdist(alloc, name, sdist, file),
+        (_, Some(said)) => Ok(is_other_version(wanted, said.version())),
+        (_, None) => Ok(false),
+    }
 }
 
 /// Whether the file name of an sdist, which says this, is another package's.
@@ -273,42 +307,6 @@ fn is_name_of(alloc: Global, name: &str, text: &str) -> Result<bool, AllocError>
     Ok(is_name(text) && normal_name(alloc, text)?.as_str() == name)
 }
 
-// ---- other versions
-
-/// The file names of another version than the entry should have.
-fn other_versions(
-    alloc: Global,
-    entry: &Entry,
-    sdist: Option<&SdistName>,
-) -> Result<Vec<String>, AllocError>
-    ensures { IfOk result (λ list. map string_bytes list.items
-        ≡ other_versions (option_copied sdist.entry) entry.now) }
-{
-    let wanted = wanted_version(alloc, entry)?;
-    let mut list = Vec::new(alloc);
-    push_other_versions(alloc, &mut list, wanted.as_ref(), entry)?;
-    push_other_sdist_version(alloc, &mut list, wanted.as_ref(), sdist, entry)?;
-    Ok(list)
-}
-
-/// Adds the file names of wheels of another version than this one.
-fn push_other_versions(
-    alloc: Global,
-    list: &mut Vec<String>,
-    wanted: Option<&Version>,
-    entry: &Entry,
-) -> Result<(), AllocError>
-    ensures { OnOk result (map string_bytes list.new.items ≡ map string_bytes list.old.items
-        ++ flat_map (wheel_where (is_other_wheel (option_copied wanted.entry)))
-        (read_wheels entry.now)) }
-{
-    for (place, file) in entry.wheels().iter().enumerate() {
-        let name = name_at(entry, place, file);
-        push_other_version(alloc, list, wanted, file, name)?;
-    }
-    Ok(())
-}
-
 /// The version that the files should have: the entry's, or where it has none that of its first
 /// wheel with a readable name.
 fn wanted_version(alloc: Global, entry: &Entry) -> Result<Option<Version>, AllocError>
@@ -335,49 +333,6 @@ fn first_version(names: &[Option<WheelName>]) -> Result<Option<Version>, AllocEr
     Ok(None)
 }
 
-/// Adds the file name of a wheel, where that is of another version than this one.
-fn push_other_version(
-    alloc: Global,
-    list: &mut Vec<String>,
-    wanted: Option<&Version>,
-    file: &WheelFile,
-    wheel: Option<&WheelName>,
-) -> Result<(), AllocError>
-    ensures { OnOk result (map string_bytes list.new.items ≡ map string_bytes list.old.items
-        ++ wheel_where (is_other_wheel (option_copied wanted.entry))
-        (file.now, option_copied wheel.entry)) }
-{
-    match wheel {
-        Some(parts) if is_other_version(wanted, parts.version()) => {
-            push_file_name(alloc, list, file)
-        }
-        _ => Ok(()),
-    }
-}
-
-/// Adds the file name of the sdist, which says this, where that is of another version.
-fn push_other_sdist_version(
-    alloc: Global,
-    list: &mut Vec<String>,
-    wanted: Option<&Version>,
-    sdist: Option<&SdistName>,
-    entry: &Entry,
-) -> Result<(), AllocError>
-    ensures { OnOk result (map string_bytes list.new.items ≡ map string_bytes list.old.items
-        ++ other_sdist_version (option_copied wanted.entry) (option_copied sdist.entry)
-        entry.now) }
-{
-    let Some(said) = sdist else {
-        return Ok(());
-    };
-    match entry.sdist() {
-        Some(file) if is_other_version(wanted, said.version()) => {
-            push_file_name(alloc, list, file)
-        }
-        _ => Ok(()),
-    }
-}
-
 fn is_other_version(wanted: Option<&Version>, version: &Version) -> bool
     ensures { result ≡ is_other_version (option_copied wanted.entry) version.now }
 {
@@ -390,8 +345,8 @@ fn is_other_version(wanted: Option<&Version>, version: &Version) -> bool
 // ---- the same names
 
 /// The file names that an earlier wheel has.
-fn same_names(alloc: Global, entry: &Entry) -> Result<Vec<String>, AllocError>
-    ensures { IfOk result (λ list. map string_bytes list.items ≡ same_file_names entry.now) }
+fn same_names(alloc: Global, entry: &Entry) -> Result<Vec<LabelledText>, AllocError>
+    ensures { IfOk result (λ list. list.items ≡ same_file_names entry.now) }
 {
     let mut list = Vec::new(alloc);
     let mut earlier = BTreeSet::new(alloc);
@@ -403,31 +358,31 @@ fn same_names(alloc: Global, entry: &Entry) -> Result<Vec<String>, AllocError>
 /// Adds the file name of the sdist where a wheel has it.
 fn push_same_sdist(
     alloc: Global,
-    list: &mut Vec<String>,
+    list: &mut Vec<LabelledText>,
     earlier: &BTreeSet<String>,
     sdist: Option<&Sdist>,
 ) -> Result<(), AllocError>
-    ensures { OnOk result (map string_bytes list.new.items ≡ map string_bytes list.old.items
+    ensures { OnOk result (list.new.items ≡ list.old.items
         ++ option_map_or (name_where (contains_text earlier.now)) (option_copied sdist.entry) []) }
 {
     let Some(file) = sdist else {
         return Ok(());
     };
     match file.file_name() {
-        Some(name) if earlier.contains(name) => Ok(list.push(file_label(alloc, file)?)?),
+        Some(name) if earlier.contains(name) => push_plain(list, file_label(alloc, file)?),
         _ => Ok(()),
     }
 }
 
 fn push_same_names(
     alloc: Global,
-    list: &mut Vec<String>,
+    list: &mut Vec<LabelledText>,
     earlier: &mut BTreeSet<String>,
     files: &[DistributionFile],
 ) -> Result<(), AllocError>
     ensures list { OnOk result ((names : List (List ℕ)) → Holds earlier.old names
-        → map string_bytes list.new.items
-        ≡ map string_bytes list.old.items ++ same_names names files.now) }
+        → list.new.items
+        ≡ list.old.items ++ same_names names files.now) }
     ensures earlier { OnOk result ((names : List (List ℕ)) → Holds earlier.old names
         → Holds earlier.new (with_names files.now names)) }
 {
@@ -440,12 +395,12 @@ fn push_same_names(
 /// Adds the file name where an earlier file has it, and has it among the earlier ones.
 fn push_same_name(
     alloc: Global,
-    list: &mut Vec<String>,
+    list: &mut Vec<LabelledText>,
     earlier: &mut BTreeSet<String>,
     file: &DistributionFile,
 ) -> Result<(), AllocError>
     ensures list { OnOk result ((names : List (List ℕ)) → Holds earlier.old names
-        → map string_bytes list.new.items ≡ map string_bytes list.old.items
+        → list.new.items ≡ list.old.items
         ++ name_where (λ name. list_any (bytes_eq name) names) file.now) }
     ensures earlier { OnOk result ((names : List (List ℕ)) → Holds earlier.old names
         → Holds earlier.new (with_name (file_name file.now) names)) }
@@ -454,7 +409,7 @@ fn push_same_name(
         return Ok(());
     };
     if earlier.contains(name) {
-        list.push(file_label(alloc, file)?)?;
+        push_plain(list, file_label(alloc, file)?)?;
     }
     earlier.insert(String::from_str(alloc, name)?)?;
     Ok(())

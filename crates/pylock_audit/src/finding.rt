@@ -1,6 +1,6 @@
 //! What is found, and where.
 
-ghost use Rattle.std.specs.Prelude.{◌≡◌, ◌++◌, ◌∷◌, [], IfOk, OnOk, map, option_map, string_bytes};
+ghost use Rattle.std.specs.Prelude.{◌≡◌, ◌++◌, ◌∷◌, [], IfOk, OnOk, option_map, string_bytes};
 ghost use Rattle.std.specs.Option.{option_copied};
 ghost use Rattle.pylock_audit.specs.Finding.{findings_at, findings_each, finding_where};
 ghost use Rattle.pylock_audit.specs.Finding.{shown_where};
@@ -208,12 +208,12 @@ pub(crate) fn shown_where(
     alloc: Global,
     counts: bool,
     text: &str,
-) -> Result<Vec<String>, AllocError>
-    ensures { IfOk result (λ list. map string_bytes list.items ≡ shown_where counts text.now) }
+) -> Result<Vec<LabelledText>, AllocError>
+    ensures { IfOk result (λ list. list.items ≡ shown_where counts text.now) }
 {
     let mut list = Vec::new(alloc);
     if counts {
-        list.push(hidden(alloc, text)?)?;
+        push_plain(&mut list, hidden(alloc, text)?)?;
     }
     Ok(list)
 }
@@ -245,24 +245,6 @@ pub(crate) fn push_where(
 
 /// Adds a finding of this kind for each of these details.
 pub(crate) fn push_each(
-    findings: &mut Vec<Finding>,
-    kind: FindingKind,
-    details: Vec<String>,
-) -> Result<(), AllocError>
-    ensures { OnOk result (findings.new.items ≡ findings.old.items
-        ++ findings_each kind (map string_bytes details.items)) }
-{
-    for detail in details {
-        findings.push(Finding {
-            kind,
-            detail: Some(LabelledText::plain(detail)),
-        })?;
-    }
-    Ok(())
-}
-
-/// The same of details that may share their labels.
-pub(crate) fn push_each_labelled(
     findings: &mut Vec<Finding>,
     kind: FindingKind,
     details: Vec<LabelledText>,

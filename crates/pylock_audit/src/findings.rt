@@ -1,7 +1,6 @@
 //! The findings of a lock.
 
-ghost use Rattle.std.specs.Prelude.{◌≡◌, ◌++◌, IfOk, OnOk, Result, Some, codes, map};
-ghost use Rattle.std.specs.Prelude.{option_map, string_bytes};
+ghost use Rattle.std.specs.Prelude.{◌≡◌, ◌++◌, IfOk, OnOk, Result, Some, codes};
 ghost use Rattle.toml.specs.Data.{Items};
 ghost use Rattle.toml.specs.View.{items_view, table_view, view};
 ghost use Rattle.pytext.specs.Agreement.{Gives};
@@ -11,24 +10,26 @@ ghost use Rattle.pylock_readers.specs.Lock.Packages.{HasRead};
 ghost use Rattle.pylock_readers.specs.Lock.Reading.{document_in};
 ghost use Rattle.pylock_readers.specs.declared.error.LockError.{LockError};
 ghost use Rattle.pylock_audit.specs.Audit.{audited_of, findings_of, head_findings_where};
-ghost use Rattle.pylock_audit.specs.Audit.{items_at, other_extras, other_form_of};
-ghost use Rattle.pylock_audit.specs.Audit.{other_forms, other_lock_version};
+ghost use Rattle.pylock_audit.specs.Audit.{of_entries, other_form_of, other_forms};
+ghost use Rattle.pylock_audit.specs.Audit.{other_lock_version};
+ghost use Rattle.pylock_audit.specs.Entry.{entry_findings};
 ghost use Rattle.pylock_audit.specs.Finding.{findings_at};
 ghost use Rattle.pylock_audit.specs.Inner.Tables.{HasLooked, audited_from, document_audited};
-ghost use Rattle.pylock_audit.specs.Inner.Tables.{entry_findings_by};
-ghost use Rattle.pylock_audit.specs.Inner.Tables.{has_no_packages, lock_findings_by, of_entries_by};
-ghost use Rattle.pylock_audit.specs.Inner.Tables.{tables_after, tables_in, with_findings};
+ghost use Rattle.pylock_audit.specs.Inner.Tables.{has_no_packages, tables_after, tables_in};
+ghost use Rattle.pylock_audit.specs.Inner.Tables.{with_findings};
 
 use crate::entry::entry_findings;
 use crate::finding::{
-    Finding, FindingKind, LockFinding, push_each, push_findings_at, push_where, shown_where,
+    Finding, FindingKind, LockFinding, push_each, push_findings_at, push_plain, push_where,
+    shown_where,
 };
-use crate::keys::{LockTable, field, push_unknown};
+use crate::keys::{LockTable, field, items_at, push_unknown, text_at};
 use crate::scope::Scope;
-use crate::tables::{Looked, TableFindings, is_other_form, table_findings, text_at};
+use crate::tables::{Looked, TableFindings, is_other_form, table_findings};
 use crate::types::push_wrong_types;
 use pylock_core::{Entry, Head, Lock, LockError};
 use pylock_readers::{MOST_ENTRIES, read_document_without};
+use pylock_shared::LabelledText;
 use pylock_shown::hidden;
 use std::alloc::{AllocError, Global};
 use toml::{Table, Value};
@@ -148,25 +149,10 @@ fn with_findings(
         (with_findings asked head.items tables.items known) }
 {
     let lock = lock?;
-    let found = lock_findings(alloc, asked, head, tables, &lock)?;
-    Ok((lock, found))
-}
-
-/// The findings of a lock, with those of its head and with what the tables of its entries gave.
-fn lock_findings(
-    alloc: Global,
-    asked: Scope,
-    head: Vec<Finding>,
-    tables: Vec<TableFindings>,
-    lock: &Lock,
-) -> Result<Vec<LockFinding>, AllocError>
-    ensures { IfOk result (λ found. found.items
-        ≡ lock_findings_by asked head.items tables.items lock.now) }
-{
     let mut found = Vec::new(alloc);
     push_findings_at(alloc, &mut found, 0, None, head)?;
-    push_entries(alloc, &mut found, asked, lock, tables)?;
-    Ok(found)
+    push_entries(alloc, &mut found, asked, &lock, tables)?;
+    Ok((lock, found))
 }
 
 // ---- the head
@@ -195,15 +181,15 @@ fn head_findings(
         FindingKind::NoPackages,
         None,
     )?;
-    let names = other_extras(alloc, document)?;
+    let mut names = Vec::new(alloc);
+    push_other_forms(alloc, &mut names, items_at(document, "extras"))?;
     push_each(&mut findings, FindingKind::NameForm, names)?;
     Ok(findings)
 }
 
 /// The version of the lock's form, where that isn't 1.0.
-fn other_lock_version(alloc: Global, document: &Table) -> Result<Vec<String>, AllocError>
-    ensures { IfOk result (λ list. map string_bytes list.items
-        ≡ other_lock_version (table_view document.now)) }
+fn other_lock_version(alloc: Global, document: &Table) -> Result<Vec<LabelledText>, AllocError>
+    ensures { IfOk result (λ list. list.items ≡ other_lock_version (table_view document.now)) }
 {
     match text_at(document, "lock-version") {
         Some(version) => shown_where(alloc, version != "1.0", version),
@@ -211,23 +197,13 @@ fn other_lock_version(alloc: Global, document: &Table) -> Result<Vec<String>, Al
     }
 }
 
-/// The extras as written, those of them that aren't in normal form.
-fn other_extras(alloc: Global, document: &Table) -> Result<Vec<String>, AllocError>
-    ensures { IfOk result (λ list. map string_bytes list.items
-        ≡ other_extras (table_view document.now)) }
-{
-    let mut list = Vec::new(alloc);
-    push_other_forms(alloc, &mut list, items_at(field(document, "extras")))?;
-    Ok(list)
-}
-
+/// Adds the texts that aren't in normal form, as they are written.
 fn push_other_forms(
     alloc: Global,
-    list: &mut Vec<String>,
+    list: &mut Vec<LabelledText>,
     values: &[Value],
 ) -> Result<(), AllocError>
-    ensures { OnOk result (map string_bytes list.new.items
-        ≡ map string_bytes list.old.items ++ other_forms (items_view values.now)) }
+    ensures { OnOk result (list.new.items ≡ list.old.items ++ other_forms (items_view values.now)) }
 {
     for value in values {
         push_other_form(alloc, list, value)?;
@@ -236,15 +212,18 @@ fn push_other_forms(
 }
 
 /// Adds a text that isn't in normal form.
-fn push_other_form(alloc: Global, list: &mut Vec<String>, value: &Value) -> Result<(), AllocError>
-    ensures { OnOk result (map string_bytes list.new.items
-        ≡ map string_bytes list.old.items ++ other_form_of (view value.now)) }
+fn push_other_form(
+    alloc: Global,
+    list: &mut Vec<LabelledText>,
+    value: &Value,
+) -> Result<(), AllocError>
+    ensures { OnOk result (list.new.items ≡ list.old.items ++ other_form_of (view value.now)) }
 {
     let Some(name) = value.as_str() else {
         return Ok(());
     };
     if is_other_form(alloc, name)? {
-        list.push(hidden(alloc, name)?)?;
+        push_plain(list, hidden(alloc, name)?)?;
     }
     Ok(())
 }
@@ -257,21 +236,11 @@ fn push_other_form(alloc: Global, list: &mut Vec<String>, value: &Value) -> Resu
 fn tables_in(alloc: Global, document: &Table) -> Result<Vec<TableFindings>, AllocError>
     ensures { IfOk result (λ tables. tables.items ≡ tables_in (table_view document.now)) }
 {
-    let values = items_at(field(document, "packages"));
+    let values = items_at(document, "packages");
     if values.len() > MOST_ENTRIES {
         return Ok(Vec::new(alloc));
     }
     table_findings(alloc, values)
-}
-
-/// The list that a key has, or none.
-fn items_at(field: Option<&Value>) -> &[Value]
-    ensures { items_view result.now ≡ items_at (option_map (λ v. view v.now) field.entry) }
-{
-    match field {
-        Some(Value::Array(items)) => items.as_slice(),
-        _ => &[],
-    }
 }
 
 /// Adds the findings of the entries, each with what its table gave.
@@ -283,7 +252,7 @@ fn push_entries(
     tables: Vec<TableFindings>,
 ) -> Result<(), AllocError>
     ensures { OnOk result (found.new.items ≡ found.old.items
-        ++ of_entries_by asked lock.now.head 1 lock.now.entries tables.items) }
+        ++ of_entries asked lock.now.head 1 lock.now.entries tables.items) }
 {
     let mut place = 0;
     for table in tables {
@@ -308,7 +277,7 @@ fn push_entry(
 ) -> Result<(), AllocError>
     ensures { OnOk result (found.new.items ≡ found.old.items
         ++ findings_at number (Some entry.now.name)
-        (entry_findings_by asked head.now table entry.now)) }
+        (entry_findings asked head.now table entry.now)) }
 {
     let findings = entry_findings(alloc, asked, head, table, entry)?;
     push_findings_at(alloc, found, number, Some(entry.name()), findings)

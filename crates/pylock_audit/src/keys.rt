@@ -1,12 +1,16 @@
 //! The keys of a lock that PEP 751 doesn't name.
 
 ghost use Rattle.std.specs.Prelude.{◌≡◌, ◌++◌, IfOk, OnOk, map, option_map, string_bytes};
+ghost use Rattle.std.specs.Option.{option_copied};
 ghost use Rattle.toml.specs.Data.{get_member};
-ghost use Rattle.toml.specs.View.{table_view, view};
-ghost use Rattle.pylock_audit.specs.Keys.{is_named, source_path, table_path, unknown_keys};
+ghost use Rattle.toml.specs.View.{items_view, table_view, view};
+ghost use Rattle.pylock_audit.specs.Keys.{is_named, items_at, source_path, table_path, text_at};
+ghost use Rattle.pylock_audit.specs.Keys.{unknown_keys};
 
+use crate::finding::push_plain;
 use pylock_core::PickSource;
 use pylock_places::joined;
+use pylock_shared::LabelledText;
 use pylock_shown::hidden;
 use std::alloc::{AllocError, Global};
 use toml::{Table, Value};
@@ -134,21 +138,38 @@ pub(crate) fn field<'a>(table: &'a Table, key: &str) -> Option<&'a Value>
     table.get(key)
 }
 
+/// The text of a key, where it is one.
+pub(crate) fn text_at<'a>(table: &'a Table, key: &str) -> Option<&'a str>
+    ensures { option_copied result ≡ text_at key.now (table_view table.now) }
+{
+    field(table, key)?.as_str()
+}
+
+/// The list of a key, or none.
+pub(crate) fn items_at<'a>(table: &'a Table, key: &str) -> &'a [Value]
+    ensures { items_view result.now ≡ items_at key.now (table_view table.now) }
+{
+    match field(table, key) {
+        Some(Value::Array(items)) => items.as_slice(),
+        _ => &[],
+    }
+}
+
 /// Adds the keys of a table that aren't named, each by its path as it is shown.
 #[tactic(auto, using(crate::proofs::KeyLemmas::keys_shown))]
 pub(crate) fn push_unknown(
     alloc: Global,
-    paths: &mut Vec<String>,
+    paths: &mut Vec<LabelledText>,
     table: LockTable,
     members: &Table,
 ) -> Result<(), AllocError>
-    ensures { OnOk result (map string_bytes paths.new.items
-        ≡ map string_bytes paths.old.items ++ unknown_keys table (table_view members.now)) }
+    ensures { OnOk result (paths.new.items
+        ≡ paths.old.items ++ unknown_keys table (table_view members.now)) }
 {
     for key in members.keys() {
         if !is_named(table, key.as_str()) {
             let shown = hidden(alloc, key.as_str())?;
-            paths.push(key_path(alloc, table, shown.as_str())?)?;
+            push_plain(paths, key_path(alloc, table, shown.as_str())?)?;
         }
     }
     Ok(())

@@ -4,26 +4,29 @@ ghost use Rattle.std.specs.Prelude.{◌≡◌, ◌++◌, IfOk, OnOk, map};
 ghost use Rattle.std.specs.List.{list_any};
 ghost use Rattle.std.specs.Option.{option_copied};
 ghost use Rattle.pymark_core.specs.Marker.Asked.{comparison_reads_extra};
-ghost use Rattle.pylock_audit.specs.Entry.{asks_undeclared, is_undeclared, marker_findings};
+ghost use Rattle.pylock_audit.specs.Entry.{asks_undeclared, is_undeclared, of_marker};
 ghost use Rattle.pylock_audit.specs.Readings.{differs, differs_by, is_equality, is_operand};
 ghost use Rattle.pylock_audit.specs.Readings.{is_other_variable};
 
 use crate::finding::{Finding, FindingKind, push_each, shown_where};
-use pylock_core::Head;
-use pymark_core::{Comparator, Comparison, Marker, Var};
+use pylock_core::{Entry, Head};
+use pymark_core::{Comparator, Comparison, Var};
 use pyver_core::{Operator, Specifier, SpecifierError, normal_name};
 use std::alloc::{AllocError, Global};
 
-/// Adds what the marker gives. Its comparisons are listed once.
-pub(crate) fn push_compared(
+/// Adds what the marker of an entry gives. Its comparisons are listed once.
+pub(crate) fn push_marker(
     alloc: Global,
     findings: &mut Vec<Finding>,
     head: &Head,
-    marker: &Marker,
+    entry: &Entry,
 ) -> Result<(), AllocError>
     ensures { OnOk result (findings.new.items
-        ≡ findings.old.items ++ marker_findings head.now marker.now) }
+        ≡ findings.old.items ++ of_marker head.now entry.now) }
 {
+    let Some(marker) = entry.marker() else {
+        return Ok(());
+    };
     let listed = marker.comparisons(alloc)?;
     let compared = listed.as_slice();
     let texts = shown_where(alloc, any_extra(compared), marker.text())?;

@@ -1,7 +1,7 @@
 //! Which findings are worked out.
 
 ghost use Rattle.std.specs.Prelude.{◌≡◌};
-ghost use Rattle.pylock_audit.specs.Inner.Scope.{wants};
+ghost use Rattle.pylock_audit.specs.Entry.{wants};
 
 use crate::finding::FindingKind;
 

@@ -2,8 +2,8 @@
 
 ghost use Rattle.std.specs.Prelude.{◌≡◌, Ok};
 ghost use Rattle.pytext.specs.Agreement.{Gives};
-ghost use Rattle.pylock_audit.specs.Strict.{is_refused, strict_findings, strict_lock_of};
-ghost use Rattle.pylock_audit.specs.Strict.{unless_found};
+ghost use Rattle.pylock_audit.specs.Strict.{strict_findings, strict_lock_of, unless_found};
+ghost use Rattle.pylock_audit.specs.Words.{is_refused};
 ghost use Rattle.pylock_audit.specs.declared.strict.StrictError.TheVariants.{Memory};
 
 use crate::finding::{FindingKind, LockFinding};
@@ -66,36 +66,21 @@ impl FindingKind {
     pub fn is_refused_by_strict(self) -> bool
         ensures { result ≡ is_refused self }
     {
-        match self {
+        matches!(
+            self,
             FindingKind::WrongType
-            | FindingKind::NoPackages
-            | FindingKind::NameForm
-            | FindingKind::Version
-            | FindingKind::MarkerExtra
-            | FindingKind::NoSource
-            | FindingKind::SeveralSources
-            | FindingKind::NoHash
-            | FindingKind::NoWheelName
-            | FindingKind::NoSdistName
-            | FindingKind::OtherName
-            | FindingKind::OtherVersion => true,
-            FindingKind::LockVersion
-            | FindingKind::UnknownKey
-            | FindingKind::ReadingsDiffer
-            | FindingKind::UndeclaredName
-            | FindingKind::WeakHash
-            | FindingKind::OddHash
-            | FindingKind::BadHash
-            | FindingKind::SameFileName
-            | FindingKind::UnsafeFileName
-            | FindingKind::OutsidePath
-            | FindingKind::UnsafeSubdirectory
-            | FindingKind::NotHttps
-            | FindingKind::Credentials
-            | FindingKind::SecretInUrl
-            | FindingKind::MovingCommit
-            | FindingKind::ControlCharacter => false,
-        }
+                | FindingKind::NoPackages
+                | FindingKind::NameForm
+                | FindingKind::Version
+                | FindingKind::MarkerExtra
+                | FindingKind::NoSource
+                | FindingKind::SeveralSources
+                | FindingKind::NoHash
+                | FindingKind::NoWheelName
+                | FindingKind::NoSdistName
+                | FindingKind::OtherName
+                | FindingKind::OtherVersion
+        )
     }
 }
 

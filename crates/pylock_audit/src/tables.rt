@@ -2,20 +2,20 @@
 //! entry moves the table's strings out; unknown keys and names as they are written stand in the
 //! table alone.
 
-ghost use Rattle.std.specs.Prelude.{◌≡◌, ◌++◌, IfOk, OnOk, codes, map, string_bytes};
-ghost use Rattle.std.specs.Option.{option_copied};
-ghost use Rattle.toml.specs.Data.{Items, as_str, no_items, push_item, table};
+ghost use Rattle.std.specs.Prelude.{◌≡◌, IfOk, OnOk, codes};
+ghost use Rattle.toml.specs.Data.{Items, no_items, push_item, table};
 ghost use Rattle.toml.specs.View.{items_view, table_view, view};
 ghost use Rattle.pylock_readers.specs.Lock.Packages.{HasRead};
-ghost use Rattle.pylock_audit.specs.Audit.{members_in};
-ghost use Rattle.pylock_audit.specs.Entry.{index_of, is_other_form, other_form, text_at};
-ghost use Rattle.pylock_audit.specs.Inner.Tables.{HasLooked, of_table, of_tables, told_by};
+ghost use Rattle.pylock_audit.specs.Audit.{members_in, of_tables};
+ghost use Rattle.pylock_audit.specs.Entry.{is_other_form, of_table, other_form, told_by};
+ghost use Rattle.pylock_audit.specs.Inner.Tables.{HasLooked};
 
 use crate::entry_keys::entry_keys_told;
 use crate::finding::{Finding, FindingKind, push_each, shown_where};
-use crate::keys::field;
+use crate::keys::text_at;
 use pylock_places::{has_credentials, is_https};
 use pylock_readers::{MOST_ENTRIES, Packages};
+use pylock_shared::LabelledText;
 use pytoml::Elements;
 use pyver_core::NormalForm;
 use std::alloc::{AllocError, Global};
@@ -24,36 +24,32 @@ use toml::{Table, Value};
 
 /// What the table of an entry gives by itself: texts that the lock doesn't keep.
 pub(crate) struct TableFindings {
-    /// The keys that PEP 751 doesn't name.
-    unknown: Vec<String>,
-    /// The keys that have another type than PEP 751 gives them.
-    wrong: Vec<String>,
-    /// The name as written, where that isn't its own normal form.
-    name: Vec<String>,
-    index: IndexFindings,
+    /// The findings of its keys and its name.
+    told: Vec<Finding>,
+    /// The URL of its index as it is shown, where that isn't of HTTPS.
+    not_https: Vec<LabelledText>,
+    /// The same where that names a user or a password.
+    credentials: Vec<LabelledText>,
 }
 
 impl Model for TableFindings {
-    ghost use Rattle.std.specs.Prelude.{map, string_bytes};
-    ghost use Rattle.pylock_audit.specs.Inner.Tables.{TableValue};
+    ghost use Rattle.pylock_audit.specs.Entry.{TableValue};
 
     ghost Value = { TableValue };
 
     ghost view = { λ t. record {
-      unknown = map string_bytes t.unknown.items;
-      wrong = map string_bytes t.wrong.items;
-      name = map string_bytes t.name.items;
-      index = t.index;
+      told = t.told.items;
+      not_https = t.not_https.items;
+      credentials = t.credentials.items;
     } };
 }
 
 impl Drop for TableFindings {
     fn drop(self) {
         let TableFindings {
-            unknown: _,
-            wrong: _,
-            name: _,
-            index: _,
+            told: _,
+            not_https: _,
+            credentials: _,
         } = self;
     }
 }
@@ -63,15 +59,18 @@ impl TableFindings {
     fn of(alloc: Global, table: &Table) -> Result<TableFindings, AllocError>
         ensures { IfOk result (λ found. found ≡ of_table (table_view table.now)) }
     {
-        let unknown = entry_keys_told(alloc, FindingKind::UnknownKey, table)?;
-        let wrong = entry_keys_told(alloc, FindingKind::WrongType, table)?;
-        let name = other_form(alloc, table)?;
-        let index = IndexFindings::of(alloc, table)?;
+        let told = told_by(alloc, table)?;
+        let Some(url) = text_at(table, "index") else {
+            return Ok(TableFindings {
+                told,
+                not_https: Vec::new(alloc),
+                credentials: Vec::new(alloc),
+            });
+        };
         Ok(TableFindings {
-            unknown,
-            wrong,
-            name,
-            index,
+            told,
+            not_https: shown_where(alloc, !is_https(url), url)?,
+            credentials: shown_where(alloc, has_credentials(url), url)?,
         })
     }
 
@@ -85,81 +84,33 @@ impl TableFindings {
         }
     }
 
-    /// Adds the keys and the name as findings, and gives what the index gave.
-    pub(crate) fn push(self, findings: &mut Vec<Finding>) -> Result<IndexFindings, AllocError>
-        ensures told { OnOk result (findings.new.items ≡ findings.old.items ++ told_by self) }
-        ensures index { IfOk result (λ index. index ≡ self.index) }
+    /// What it gives, in the order of its fields.
+    pub(crate) fn into_parts(self) -> (Vec<Finding>, Vec<LabelledText>, Vec<LabelledText>)
+        ensures told { result.0.items ≡ self.told }
+        ensures not_https { result.1.items ≡ self.not_https }
+        ensures credentials { result.2.items ≡ self.credentials }
     {
         let TableFindings {
-            unknown,
-            wrong,
-            name,
-            index,
-        } = self;
-        push_each(findings, FindingKind::UnknownKey, unknown)?;
-        push_each(findings, FindingKind::WrongType, wrong)?;
-        push_each(findings, FindingKind::NameForm, name)?;
-        Ok(index)
-    }
-}
-
-/// What the index of an entry gives.
-pub(crate) struct IndexFindings {
-    /// The URL as it is shown, where that isn't of HTTPS.
-    not_https: Vec<String>,
-    /// The URL as it is shown, where that names a user or a password.
-    credentials: Vec<String>,
-}
-
-impl Model for IndexFindings {
-    ghost use Rattle.std.specs.Prelude.{map, string_bytes};
-    ghost use Rattle.pylock_audit.specs.Entry.{IndexValue};
-
-    ghost Value = { IndexValue };
-
-    ghost view = { λ i. record {
-      not_https = map string_bytes i.not_https.items;
-      credentials = map string_bytes i.credentials.items;
-    } };
-}
-
-impl Drop for IndexFindings {
-    fn drop(self) {
-        let IndexFindings {
-            not_https: _,
-            credentials: _,
-        } = self;
-    }
-}
-
-impl IndexFindings {
-    /// What the index of this table gives, where that is a text.
-    fn of(alloc: Global, table: &Table) -> Result<IndexFindings, AllocError>
-        ensures { IfOk result (λ index. index ≡ index_of (table_view table.now)) }
-    {
-        let Some(url) = text_at(table, "index") else {
-            return Ok(IndexFindings {
-                not_https: Vec::new(alloc),
-                credentials: Vec::new(alloc),
-            });
-        };
-        Ok(IndexFindings {
-            not_https: shown_where(alloc, !is_https(url), url)?,
-            credentials: shown_where(alloc, has_credentials(url), url)?,
-        })
-    }
-
-    /// Where it isn't of HTTPS, and where it names a user or a password.
-    pub(crate) fn into_parts(self) -> (Vec<String>, Vec<String>)
-        ensures not_https { map string_bytes result.0.items ≡ self.not_https }
-        ensures credentials { map string_bytes result.1.items ≡ self.credentials }
-    {
-        let IndexFindings {
+            told,
             not_https,
             credentials,
         } = self;
-        (not_https, credentials)
+        (told, not_https, credentials)
     }
+}
+
+/// The findings of the keys and the name of an entry.
+fn told_by(alloc: Global, table: &Table) -> Result<Vec<Finding>, AllocError>
+    ensures { IfOk result (λ findings. findings.items ≡ told_by (table_view table.now)) }
+{
+    let mut findings = Vec::new(alloc);
+    let unknown = entry_keys_told(alloc, FindingKind::UnknownKey, table)?;
+    push_each(&mut findings, FindingKind::UnknownKey, unknown)?;
+    let wrong = entry_keys_told(alloc, FindingKind::WrongType, table)?;
+    push_each(&mut findings, FindingKind::WrongType, wrong)?;
+    let name = other_form(alloc, table)?;
+    push_each(&mut findings, FindingKind::NameForm, name)?;
+    Ok(findings)
 }
 
 /// What each of these values gives. Where each key is named and each name is in normal form, it
@@ -177,17 +128,9 @@ pub(crate) fn table_findings(
     Ok(tables)
 }
 
-/// The text of a key, where it is one.
-pub(crate) fn text_at<'a>(table: &'a Table, key: &str) -> Option<&'a str>
-    ensures { option_copied result ≡ text_at key.now (table_view table.now) }
-{
-    field(table, key)?.as_str()
-}
-
 /// The name as written, where that isn't its own normal form.
-fn other_form(alloc: Global, table: &Table) -> Result<Vec<String>, AllocError>
-    ensures { IfOk result (λ list. map string_bytes list.items
-        ≡ other_form (table_view table.now)) }
+fn other_form(alloc: Global, table: &Table) -> Result<Vec<LabelledText>, AllocError>
+    ensures { IfOk result (λ list. list.items ≡ other_form (table_view table.now)) }
 {
     match text_at(table, "name") {
         Some(name) => shown_where(alloc, is_other_form(alloc, name)?, name),

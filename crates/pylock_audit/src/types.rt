@@ -1,15 +1,16 @@
 //! The keys to which PEP 751 gives a type, and whose values the installation steps ignore.
 
-ghost use Rattle.std.specs.Prelude.{◌≡◌, ◌++◌, OnOk, codes, false, map, string_bytes};
+ghost use Rattle.std.specs.Prelude.{◌≡◌, ◌++◌, OnOk, false, map};
 ghost use Rattle.std.specs.Option.{option_map_or};
-ghost use Rattle.toml.specs.Data.{get_member};
 ghost use Rattle.toml.specs.View.{items_view, table_view, view};
-ghost use Rattle.pylock_audit.specs.Types.{each_item, has_type, is_identity, is_list, is_moment};
-ghost use Rattle.pylock_audit.specs.Types.{is_size, is_table, is_text, is_upload_time, is_utc};
-ghost use Rattle.pylock_audit.specs.Types.{wrong_at, wrong_of_file, wrong_of_source, wrong_types};
+ghost use Rattle.pylock_audit.specs.Types.{are_tables, has_type, is_moment, is_size, is_table};
+ghost use Rattle.pylock_audit.specs.Types.{is_tables, is_text, is_upload_time, is_utc, typed_keys};
+ghost use Rattle.pylock_audit.specs.Types.{wrong_at, wrong_types};
 
-use crate::keys::{LockTable, field, key_path};
+use crate::finding::push_plain;
+use crate::keys::{LockTable, field, key_path, text_at};
 use pylock_core::PickSource;
+use pylock_shared::LabelledText;
 use std::alloc::{AllocError, Global};
 use toml::value::{Datetime, Offset};
 use toml::{Table, Value};
@@ -22,10 +23,14 @@ fn is_text(value: &Value) -> bool
     matches!(value, Value::String(_))
 }
 
-fn is_table(value: &Value) -> bool
-    ensures { result ≡ is_table (view value.now) }
+/// Whether it is a table; with a text `kind`, where that is wanted.
+fn is_table(with_kind: bool, value: &Value) -> bool
+    ensures { result ≡ is_table with_kind (view value.now) }
 {
-    matches!(value, Value::Table(_))
+    match value {
+        Value::Table(members) => !with_kind || text_at(members, "kind").is_some(),
+        _ => false,
+    }
 }
 
 /// Whether it is a size in bytes, an integer that isn't negative.
@@ -65,65 +70,25 @@ fn is_utc(offset: Option<Offset>) -> bool
     }
 }
 
-/// Whether it is a list of tables.
-fn is_list_of_tables(value: &Value) -> bool
-    ensures { result ≡ is_list is_table (view value.now) }
+/// Whether it is a list of such tables.
+fn is_tables(with_kind: bool, value: &Value) -> bool
+    ensures { result ≡ is_tables with_kind (view value.now) }
 {
     match value {
-        Value::Array(items) => are_tables(items.as_slice()),
+        Value::Array(items) => are_tables(with_kind, items.as_slice()),
         _ => false,
     }
 }
 
-fn are_tables(items: &[Value]) -> bool
-    ensures { result ≡ each_item is_table (items_view items.now) }
+fn are_tables(with_kind: bool, items: &[Value]) -> bool
+    ensures { result ≡ are_tables with_kind (items_view items.now) }
 {
     for value in items {
-        if !is_table(value) {
+        if !is_table(with_kind, value) {
             return false;
         }
     }
     true
-}
-
-/// Whether it is a list of tables with a text `kind`.
-fn is_list_of_identities(value: &Value) -> bool
-    ensures { result ≡ is_list is_identity (view value.now) }
-{
-    match value {
-        Value::Array(items) => are_identities(items.as_slice()),
-        _ => false,
-    }
-}
-
-fn are_identities(items: &[Value]) -> bool
-    ensures { result ≡ each_item is_identity (items_view items.now) }
-{
-    for value in items {
-        if !is_identity(value) {
-            return false;
-        }
-    }
-    true
-}
-
-fn is_identity(value: &Value) -> bool
-    ensures { result ≡ is_identity (view value.now) }
-{
-    match value {
-        Value::Table(identity) => has_kind(identity),
-        _ => false,
-    }
-}
-
-fn has_kind(identity: &Table) -> bool
-    ensures { result ≡ option_map_or is_text (get_member (codes "kind") (table_view identity.now))
-        false }
-{
-    match field(identity, "kind") {
-        Some(kind) => is_text(kind),
-        None => false,
-    }
 }
 
 // ---- the keys
@@ -150,9 +115,9 @@ fn has_type(wanted: KeyType, value: &Value) -> bool
 {
     match wanted {
         KeyType::Text => is_text(value),
-        KeyType::Table => is_table(value),
-        KeyType::Tables => is_list_of_tables(value),
-        KeyType::Identities => is_list_of_identities(value),
+        KeyType::Table => is_table(false, value),
+        KeyType::Tables => is_tables(false, value),
+        KeyType::Identities => is_tables(true, value),
         KeyType::Size => is_size(value),
         KeyType::UploadTime => is_upload_time(value),
     }
@@ -161,113 +126,57 @@ fn has_type(wanted: KeyType, value: &Value) -> bool
 /// Adds the path of a key that is there with another type.
 fn push_wrong_at(
     alloc: Global,
-    paths: &mut Vec<String>,
+    paths: &mut Vec<LabelledText>,
     table: LockTable,
     members: &Table,
     key: &str,
     wanted: KeyType,
 ) -> Result<(), AllocError>
-    ensures { OnOk result (map string_bytes paths.new.items ≡ map string_bytes paths.old.items
+    ensures { OnOk result (paths.new.items ≡ paths.old.items
         ++ wrong_at table (table_view members.now) key.now wanted) }
 {
     match field(members, key) {
-        Some(value) if !has_type(wanted, value) => Ok(paths.push(key_path(alloc, table, key)?)?),
+        Some(value) if !has_type(wanted, value) => push_plain(paths, key_path(alloc, table, key)?),
         _ => Ok(()),
+    }
+}
+
+/// The keys of a table to which PEP 751 gives a type, in order of code point.
+fn typed_keys(table: LockTable) -> &'static [(&'static str, KeyType)]
+    ensures { map (λ typed. (typed.0.now, typed.1)) result.now ≡ typed_keys table }
+{
+    match table {
+        LockTable::Head => &[("tool", KeyType::Table)],
+        LockTable::Entry => &[
+            ("attestation-identities", KeyType::Identities),
+            ("dependencies", KeyType::Tables),
+            ("index", KeyType::Text),
+            ("tool", KeyType::Table),
+        ],
+        LockTable::OfSource(PickSource::Vcs) => &[("requested-revision", KeyType::Text)],
+        LockTable::OfSource(PickSource::Directory) => &[],
+        LockTable::OfSource(PickSource::Archive | PickSource::Wheel(_) | PickSource::Sdist) => {
+            &[
+                ("size", KeyType::Size),
+                ("upload-time", KeyType::UploadTime),
+            ]
+        }
     }
 }
 
 /// Adds the keys of a table that have another type than PEP 751 gives them, each by its path.
 pub(crate) fn push_wrong_types(
     alloc: Global,
-    paths: &mut Vec<String>,
+    paths: &mut Vec<LabelledText>,
     table: LockTable,
     members: &Table,
 ) -> Result<(), AllocError>
-    ensures { OnOk result (map string_bytes paths.new.items
-        ≡ map string_bytes paths.old.items ++ wrong_types table (table_view members.now)) }
+    ensures { OnOk result (paths.new.items
+        ≡ paths.old.items ++ wrong_types table (table_view members.now)) }
 {
-    match table {
-        LockTable::Head => push_wrong_at(alloc, paths, table, members, "tool", KeyType::Table),
-        LockTable::Entry => push_wrong_of_entry(alloc, paths, members),
-        LockTable::OfSource(name) => push_wrong_of_source(alloc, paths, name, members),
+    let keys = typed_keys(table);
+    for (key, wanted) in keys {
+        push_wrong_at(alloc, paths, table, members, key, *wanted)?;
     }
-}
-
-fn push_wrong_of_entry(
-    alloc: Global,
-    paths: &mut Vec<String>,
-    members: &Table,
-) -> Result<(), AllocError>
-    ensures { OnOk result (map string_bytes paths.new.items ≡ map string_bytes paths.old.items
-        ++ wrong_types LockTable.Entry (table_view members.now)) }
-{
-    let entry = LockTable::Entry;
-    let identities = KeyType::Identities;
-    push_wrong_at(
-        alloc,
-        paths,
-        entry,
-        members,
-        "attestation-identities",
-        identities,
-    )?;
-    push_wrong_at(
-        alloc,
-        paths,
-        entry,
-        members,
-        "dependencies",
-        KeyType::Tables,
-    )?;
-    push_wrong_at(alloc, paths, entry, members, "index", KeyType::Text)?;
-    push_wrong_at(alloc, paths, entry, members, "tool", KeyType::Table)
-}
-
-fn push_wrong_of_source(
-    alloc: Global,
-    paths: &mut Vec<String>,
-    name: PickSource,
-    members: &Table,
-) -> Result<(), AllocError>
-    ensures { OnOk result (map string_bytes paths.new.items
-        ≡ map string_bytes paths.old.items ++ wrong_of_source name (table_view members.now)) }
-{
-    let table = LockTable::OfSource(name);
-    match name {
-        PickSource::Vcs => {
-            push_wrong_at(
-                alloc,
-                paths,
-                table,
-                members,
-                "requested-revision",
-                KeyType::Text,
-            )
-        }
-        PickSource::Directory => Ok(()),
-        PickSource::Archive | PickSource::Wheel(_) | PickSource::Sdist => {
-            push_wrong_of_file(alloc, paths, table, members)
-        }
-    }
-}
-
-/// Adds those of an archive, an sdist or a wheel.
-fn push_wrong_of_file(
-    alloc: Global,
-    paths: &mut Vec<String>,
-    table: LockTable,
-    members: &Table,
-) -> Result<(), AllocError>
-    ensures { OnOk result (map string_bytes paths.new.items
-        ≡ map string_bytes paths.old.items ++ wrong_of_file table (table_view members.now)) }
-{
-    push_wrong_at(alloc, paths, table, members, "size", KeyType::Size)?;
-    push_wrong_at(
-        alloc,
-        paths,
-        table,
-        members,
-        "upload-time",
-        KeyType::UploadTime,
-    )
+    Ok(())
 }

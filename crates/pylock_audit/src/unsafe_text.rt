@@ -1,31 +1,14 @@
 //! Texts that do harm where they are used as they stand.
 
 ghost use Rattle.std.specs.Prelude.{◌≡◌};
-ghost use Rattle.std.specs.List.{list_any, slice_split};
-ghost use Rattle.std.specs.Str.{chars};
-ghost use Rattle.pylock_audit.specs.Unsafe.{begins_with_parent, begins_with_root, has_control};
+ghost use Rattle.std.specs.List.{list_any};
 ghost use Rattle.pylock_readers.specs.Entry.FileName.{ends_segment};
-ghost use Rattle.pylock_audit.specs.Unsafe.{climbs_out, cuts_path, has_drive, has_later_parent};
-ghost use Rattle.pylock_audit.specs.Unsafe.{is_folder_above, is_outside_path, is_same_folder};
-ghost use Rattle.pylock_audit.specs.Unsafe.{is_unsafe_name, is_unsafe_path};
+ghost use Rattle.pylock_audit.specs.Unsafe.{begins_with_root, climbs_out, cuts_path, has_drive};
+ghost use Rattle.pylock_audit.specs.Unsafe.{has_parent, is_folder_above, is_outside_path};
+ghost use Rattle.pylock_audit.specs.Unsafe.{is_same_folder, is_unsafe_name, is_unsafe_path};
+ghost use Rattle.pylock_shown.specs.Visible.{has_control};
 
-use pylock_shown::{is_control, is_printable};
-
-/// Whether the text has a control character. Of nearly each text it is seen at once that it has
-/// none.
-#[tactic(auto, using(pylock_shown::proofs::PrintableLemmas::printable_has_none))]
-pub(crate) fn has_control(text: &str) -> bool
-    ensures { result ≡ has_control text.now }
-{
-    !is_printable(text.as_bytes()) && any_control(text)
-}
-
-/// The same, character by character.
-fn any_control(text: &str) -> bool
-    ensures { result ≡ has_control text.now }
-{
-    text.chars().any(|c| is_control(c))
-}
+use pylock_shown::has_control;
 
 fn ends_segment(b: u8) -> bool
     ensures { result ≡ ends_segment b }
@@ -57,11 +40,7 @@ fn ends_a_segment(text: &str) -> bool
 pub(crate) fn is_unsafe_path(text: &str) -> bool
     ensures { result ≡ is_unsafe_path text.now }
 {
-    let bytes = text.as_bytes();
-    begins_with_root(bytes)
-        || has_drive(text)
-        || begins_with_parent(bytes)
-        || has_later_parent(bytes)
+    begins_with_root(text.as_bytes()) || has_drive(text) || has_parent(text.as_bytes())
 }
 
 fn begins_with_root(text: &[u8]) -> bool
@@ -80,29 +59,18 @@ fn has_drive(text: &str) -> bool
     text.chars().nth(1) == Some(':')
 }
 
-/// Whether the first piece is `..`.
-fn begins_with_parent(text: &[u8]) -> bool
-    ensures { result ≡ begins_with_parent text.now }
+/// Whether a piece is `..`, on Windows or elsewhere.
+fn has_parent(text: &[u8]) -> bool
+    ensures { result ≡ has_parent text.now }
 {
-    match text {
-        [b'.', b'.'] => true,
-        [b'.', b'.', next, ..] => ends_segment(*next),
-        _ => false,
-    }
+    text.split(|b| ends_segment(*b))
+        .any(|piece| is_folder_above(piece))
 }
 
-/// Whether a later piece is `..`.
-fn has_later_parent(text: &[u8]) -> bool
-    ensures { result ≡ has_later_parent text.now }
+fn is_folder_above(piece: &[u8]) -> bool
+    ensures { result ≡ is_folder_above piece.now }
 {
-    let mut left = text;
-    while let [first, rest @ ..] = left {
-        if ends_segment(*first) && begins_with_parent(rest) {
-            return true;
-        }
-        left = rest;
-    }
-    false
+    matches!(piece, [b'.', b'.'])
 }
 
 // ---- outside of a folder
@@ -122,12 +90,6 @@ fn cuts_path(windows: bool, b: u8) -> bool
     ensures { result ≡ cuts_path windows b }
 {
     b == b'/' || (windows && b == b'\\')
-}
-
-fn is_folder_above(piece: &[u8]) -> bool
-    ensures { result ≡ is_folder_above piece.now }
-{
-    matches!(piece, [b'.', b'.'])
 }
 
 fn is_same_folder(piece: &[u8]) -> bool

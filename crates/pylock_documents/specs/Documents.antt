@@ -22,7 +22,7 @@ use Rattle.pylock_core.specs.declared.answer.Pick.{Pick}
 use Rattle.pylock_core.specs.declared.fate.Fate.{Fate}
 use Rattle.pylock_documents.specs.Reasons.{detail, head_detail, shown_version}
 use Rattle.pylock_core.specs.Words.{fault_word, verdict_word}
-use Rattle.pylock_documents.specs.Source.{source_data}
+use Rattle.pylock_documents.specs.Source.{entry_rows, source_data}
 
 -- what may be absent, as a list of one item or none
 abbrev pub where_there : {X : Type 0} → (X → Data) → Option X → List Data
@@ -85,16 +85,9 @@ head_rows state (Some code) =
 abbrev pub head_data : State → Data
 head_data state = object_of (head_rows state (head_fault state.head state.environment))
 
-abbrev pub shown_rows : ℕ → EntryValue → List Row
-shown_rows number entry =
-    (codes "id", numbered number)
-    ∷ (codes "name", there entry.name)
-    ∷ (codes "version", maybe (shown_version entry))
-    ∷ []
-
 abbrev pub fate_rows : State → ℕ → Fate → EntryValue → List Row
 fate_rows state number fate entry =
-    shown_rows number entry
+    entry_rows number entry (shown_version entry)
     ++ verdict_rows (verdict_word entry fate) (detail state entry fate)
 
 -- the verdict on an entry; the number of a fate is that of an entry, so it is there

@@ -15,8 +15,9 @@ use Rattle.pymark_core.specs.declared.fault.EvalFault.{EvalFault}
 use Rattle.pymark_core.specs.declared.fault.EvalFault.TheVariants.{Unset}
 use Rattle.pywheel_core.specs.Tag.{TagValue, tag_eq, tag_text}
 use Rattle.pywheel_core.specs.Wheel.Value.{WheelValue}
-use Rattle.pylock_readers.specs.Entry.{EntryValue, FileValue, place_of, wheel_names}
+use Rattle.pylock_readers.specs.Entry.{EntryValue, FileValue, wheel_names}
 use Rattle.pylock_readers.specs.Lock.{HeadValue}
+use Rattle.pylock_core.specs.Session.Picks.{source_in}
 use Rattle.pylock_core.specs.Session.State.{State}
 use Rattle.pylock_core.specs.declared.answer.FaultCode.{FaultCode}
 use Rattle.pylock_core.specs.declared.answer.FaultCode.TheVariants as fault
@@ -28,7 +29,7 @@ use Rattle.pylock_core.specs.declared.fate.Fate.TheVariants as fate
 use Rattle.pylock_readers.specs.Entry.Kinds.{kinds_text}
 use Rattle.pylock_core.specs.Words.{policy_word}
 use Rattle.pylock_places.specs.FileName.{shown_file_name}
-use Rattle.pylock_places.specs.Shown.{file_label}
+use Rattle.pylock_places.specs.Shown.{source_label}
 use Rattle.pylock_shown.specs.Hidden.{hidden}
 
 -- ---- why: of markers and Python checks
@@ -102,20 +103,10 @@ wheel_at tags entry index =
     (option_and_then (λ name. name) (slice_get (wheel_names entry) index)))
     (slice_get entry.wheels index)
 
--- the place of a source that is no file
-abbrev pub place_in : EntryValue → PickSource → Option (List ℕ)
-place_in entry source.Vcs = option_map (λ vcs. place_of vcs.location) entry.vcs
-place_in entry source.Directory = option_map (λ directory. directory.path) entry.directory
-place_in entry source.Archive = option_map (λ archive. place_of archive.location) entry.archive
-place_in entry (source.Wheel index) = None
-place_in entry source.Sdist = None
-
--- where a source lies: of a wheel its file name and its best tag, of an sdist its file name, or its
--- place where it has none
+-- where a source lies: of a wheel its file name and its best tag, of another what it is called
 abbrev pub source_detail : List TagValue → EntryValue → PickSource → Option (List ℕ)
 source_detail tags entry (source.Wheel index) = wheel_at tags entry index
-source_detail tags entry source.Sdist = option_map file_label entry.sdist
-source_detail tags entry other = option_map hidden (place_in entry other)
+source_detail tags entry other = option_map source_label (source_in entry other)
 
 -- ---- what an entry is called
 

@@ -41,13 +41,14 @@ source_rows source =
 
 -- ---- a source with its entry
 
-abbrev pub entry_rows : ℕ → EntryValue → List Row
-entry_rows number entry =
+abbrev pub entry_rows : ℕ → EntryValue → Option (List ℕ) → List Row
+entry_rows number entry version =
     (codes "id", numbered number)
     ∷ (codes "name", there entry.name)
-    ∷ (codes "version", maybe entry.version)
+    ∷ (codes "version", maybe version)
     ∷ []
 
 -- the object of a source of the entry that has this number
 abbrev pub source_data : ℕ → EntryValue → SourceValue → Data
-source_data number entry source = object_of (entry_rows number entry ++ source_rows source)
+source_data number entry source =
+    object_of (entry_rows number entry entry.version ++ source_rows source)

@@ -6,9 +6,10 @@ ghost use Rattle.std.specs.Option.{option_copied};
 ghost use Rattle.serde_json.specs.View.{members_view, view as data_of};
 ghost use Rattle.pylock_json.specs.Json.{members_of, object_of, with_rows};
 ghost use Rattle.pylock_documents.specs.Documents.{explain_rows, fate_rows, head_data};
-ghost use Rattle.pylock_documents.specs.Documents.{shown_rows, verdict_data, verdict_rows};
+ghost use Rattle.pylock_documents.specs.Documents.{verdict_data, verdict_rows};
 
 use crate::reasons::{detail, head_detail, shown_version};
+use crate::source::entry_object;
 use pylock_core::{Entry, Fate, Session, fault_word, verdict_word};
 use pylock_json::{Json, List, Object};
 use std::alloc::{AllocError, Global};
@@ -85,7 +86,9 @@ fn fate_object(
         ≡ object_of (fate_rows session.now.state number fate entry.now)) }
 {
     let detail = detail(alloc, session, entry, fate)?;
-    let mut object = shown_object(alloc, number, entry)?;
+    let version = shown_version(alloc, entry)?;
+    let number = u64::from(number);
+    let mut object = entry_object(alloc, number, entry, version.as_deref())?;
     put_verdict(
         alloc,
         &mut object,
@@ -93,19 +96,6 @@ fn fate_object(
         detail.as_deref(),
     )?;
     Ok(object.into_json())
-}
-
-/// An object with the number, the name and the version of an entry, as it is shown.
-fn shown_object(alloc: Global, number: u32, entry: &Entry) -> Result<Object, AllocError>
-    ensures { IfOk result (λ object. members_view object
-        ≡ members_of (shown_rows number entry.now)) }
-{
-    let version = shown_version(alloc, entry)?;
-    let mut object = Object::new(alloc);
-    object.put_number(alloc, "id", u64::from(number))?;
-    object.put_text(alloc, "name", entry.name())?;
-    object.put_maybe(alloc, "version", version.as_deref())?;
-    Ok(object)
 }
 
 /// Puts a verdict and its detail.

@@ -3,12 +3,12 @@
 ghost use Rattle.std.specs.Prelude.{◌≡◌, ◌++◌, IfOk, OnOk, map};
 ghost use Rattle.serde_json.specs.View.{members_view, view as data_of};
 ghost use Rattle.pylock_json.specs.Json.{members_of};
-ghost use Rattle.pylock_core.specs.Session.Picks.{lent_named, sources};
+ghost use Rattle.pylock_core.specs.Session.Picks.{sources};
 ghost use Rattle.pylock_documents.specs.Documents.{files_from, files_rows};
 ghost use Rattle.pylock_documents.specs.Source.{source_data};
 
 use crate::source::source_object;
-use pylock_core::{Entry, NamedSource, sources};
+use pylock_core::{Entry, sources};
 use pylock_json::{List, Object};
 use std::alloc::{AllocError, Global};
 
@@ -43,20 +43,8 @@ fn push_sources(
     ensures { OnOk result (map data_of list.new ≡ map data_of list.old
         ++ map (λ s. source_data number entry.now s.1) (sources entry.now)) }
 {
-    let named = sources(alloc, entry)?;
-    push_named(alloc, list, number, entry, named.as_slice())
-}
-
-fn push_named(
-    alloc: Global,
-    list: &mut List,
-    number: u64,
-    entry: &Entry,
-    named: &[NamedSource<'_>],
-) -> Result<(), AllocError>
-    ensures { OnOk result (map data_of list.new ≡ map data_of list.old
-        ++ map (λ s. source_data number entry.now s.1) (map lent_named named.now)) }
-{
+    let sources = sources(alloc, entry)?;
+    let named = sources.as_slice();
     for source in named {
         list.push(source_object(alloc, number, entry, source.source)?)?;
     }

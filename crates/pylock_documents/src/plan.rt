@@ -3,10 +3,8 @@
 ghost use Rattle.std.specs.Prelude.{◌≡◌, ◌++◌, IfOk, OnOk, map, option_map};
 ghost use Rattle.std.specs.Prelude.{string_bytes};
 ghost use Rattle.std.specs.List.{flat_map};
-ghost use Rattle.std.specs.Option.{option_copied};
 ghost use Rattle.serde_json.specs.View.{members_view, view as data_of};
 ghost use Rattle.pylock_json.specs.Json.{members_of, object_of};
-ghost use Rattle.pylock_core.specs.Session.State.{entry_at};
 ghost use Rattle.pylock_documents.specs.Documents.{answer_rows, fault_detail, fault_rows};
 ghost use Rattle.pylock_documents.specs.Documents.{pick_data};
 
@@ -80,20 +78,13 @@ fn fault_object(
         ≡ object_of (fault_rows session.now.state number code)) }
 {
     let detail = fault_detail(alloc, session, number, code)?;
+    let name = session.entry(number).map(|entry| entry.name());
     let mut object = Object::new(alloc);
     object.put_number(alloc, "id", u64::from(number))?;
-    object.put_maybe(alloc, "name", name_of(session, number))?;
+    object.put_maybe(alloc, "name", name)?;
     object.put_text(alloc, "code", fault_word(code))?;
     object.put_maybe(alloc, "detail", detail.as_deref())?;
     Ok(object.into_json())
-}
-
-/// The name of the entry of a number; the head has none.
-fn name_of(session: &Session, number: u32) -> Option<&str>
-    ensures { option_copied result
-        ≡ option_map (λ entry. entry.name) (entry_at number session.now.state.entries) }
-{
-    Some(session.entry(number)?.name())
 }
 
 /// Why the entry of this number, or the head, has its fault.

@@ -7,17 +7,14 @@ ghost use Rattle.std.specs.Option.{option_copied};
 ghost use Rattle.pylock_readers.specs.Entry.{wheel_names};
 ghost use Rattle.pylock_documents.specs.Reasons.{best_tag, condition_detail, deciding_marker};
 ghost use Rattle.pylock_documents.specs.Reasons.{detail, files_word, has_tag, head_detail};
-ghost use Rattle.pylock_documents.specs.Reasons.{marker_detail, place_in, sdist_word};
-ghost use Rattle.pylock_documents.specs.Reasons.{shown_version, source_detail, wheel_at};
-ghost use Rattle.pylock_documents.specs.Reasons.{wheel_detail};
-ghost use Rattle.pylock_places.specs.Shown.{file_label};
-ghost use Rattle.pylock_shown.specs.Hidden.{hidden};
+ghost use Rattle.pylock_documents.specs.Reasons.{marker_detail, sdist_word, shown_version};
+ghost use Rattle.pylock_documents.specs.Reasons.{source_detail, wheel_at, wheel_detail};
 
 use pylock_core::{
     Entry, Fate, FaultCode, Head, PickSource, Policy, Session, WheelFile, policy_word,
 };
-use pylock_places::{file_label, shown_file_name};
-use pylock_shown::{hidden, push_hidden};
+use pylock_places::{hidden_text, shown_file_name, source_label};
+use pylock_shown::push_hidden;
 use pymark_core::{Environment, EvalFault, Marker};
 use pyver_core::SpecifierSet;
 use pywheel_core::{Tag, TagList, WheelName};
@@ -97,7 +94,7 @@ fn condition_detail(
 {
     match code {
         FaultCode::PythonUnknown | FaultCode::PythonNotMet => {
-            shown_text(alloc, set.map(|set| set.text()))
+            hidden_text(alloc, set.map(|set| set.text()))
         }
         _ => marker_of(alloc, environment, marker),
     }
@@ -168,21 +165,10 @@ fn source_detail(
     ensures { IfOk result (λ text. option_map string_bytes text
         ≡ source_detail tags.now entry.now source) }
 {
-    match source {
-        PickSource::Wheel(index) => wheel_at(alloc, tags, entry, index),
-        PickSource::Sdist => sdist_label(alloc, entry),
-        _ => shown_text(alloc, place_in(entry, source)),
-    }
-}
-
-/// A text as it is shown, where it is there.
-fn shown_text(alloc: Global, text: Option<&str>) -> Result<Option<String>, AllocError>
-    ensures { IfOk result (λ shown. option_map string_bytes shown
-        ≡ option_map hidden (option_copied text.entry)) }
-{
-    match text {
-        Some(text) => Ok(Some(hidden(alloc, text)?)),
-        None => Ok(None),
+    match (source, source.of(entry)) {
+        (PickSource::Wheel(index), _) => wheel_at(alloc, tags, entry, index),
+        (_, Some(source)) => Ok(Some(source_label(alloc, source)?)),
+        (_, None) => Ok(None),
     }
 }
 
@@ -190,30 +176,7 @@ fn shown_text(alloc: Global, text: Option<&str>) -> Result<Option<String>, Alloc
 pub fn shown_version(alloc: Global, entry: &Entry) -> Result<Option<String>, AllocError>
     ensures { IfOk result (λ text. option_map string_bytes text ≡ shown_version entry.now) }
 {
-    shown_text(alloc, entry.version())
-}
-
-/// The place of a source that is no file.
-fn place_in(entry: &Entry, source: PickSource) -> Option<&str>
-    ensures { option_copied result ≡ place_in entry.now source }
-{
-    Some(match source {
-        PickSource::Vcs => entry.vcs()?.place(),
-        PickSource::Directory => entry.directory()?.path(),
-        PickSource::Archive => entry.archive()?.place(),
-        PickSource::Wheel(_) | PickSource::Sdist => return None,
-    })
-}
-
-/// The file name of the sdist as it is shown, or its place where it has none.
-fn sdist_label(alloc: Global, entry: &Entry) -> Result<Option<String>, AllocError>
-    ensures { IfOk result (λ text. option_map string_bytes text
-        ≡ option_map file_label entry.now.sdist) }
-{
-    match entry.sdist() {
-        Some(sdist) => Ok(Some(file_label(alloc, sdist)?)),
-        None => Ok(None),
-    }
+    hidden_text(alloc, entry.version())
 }
 
 /// The wheel at this index: its file name and its best tag.

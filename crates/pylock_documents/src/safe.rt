@@ -3,12 +3,10 @@
 ghost use Rattle.std.specs.Prelude.{◌≡◌, ◌++◌, ◌∷◌, [], ◌%◌, IfOk, OnOk, string_bytes};
 ghost use Rattle.std.specs.Char.{digit_char};
 ghost use Rattle.std.specs.Char.Escape.{encode_utf16};
-ghost use Rattle.std.specs.List.{flat_map, list_any};
-ghost use Rattle.std.specs.Str.{chars};
+ghost use Rattle.std.specs.List.{flat_map};
 ghost use Rattle.pylock_documents.specs.Safe.{escaped_unit, safe_character, safe_json};
-ghost use Rattle.pylock_shown.specs.Visible.{is_control};
 
-use pylock_shown::{is_control, is_printable};
+use pylock_shown::{has_control, is_control};
 use std::alloc::{AllocError, Global};
 
 /// The JSON, in which each control character is escaped. It takes memory, for the new text, only
@@ -22,22 +20,6 @@ pub(crate) fn safe_json(alloc: Global, text: String) -> Result<String, AllocErro
     } else {
         Ok(text)
     }
-}
-
-/// Whether the text has a control character. Of a text of printable ASCII it is seen at once that
-/// it has none.
-#[tactic(auto, using(pylock_shown::proofs::PrintableLemmas::printable_has_none))]
-fn has_control(text: &str) -> bool
-    ensures { result ≡ list_any is_control (chars text.now) }
-{
-    !is_printable(text.as_bytes()) && any_control(text)
-}
-
-/// The same, character by character.
-fn any_control(text: &str) -> bool
-    ensures { result ≡ list_any is_control (chars text.now) }
-{
-    text.chars().any(|c| is_control(c))
 }
 
 fn escaped(alloc: Global, text: &str) -> Result<String, AllocError>

@@ -1,6 +1,7 @@
 //! The object of a source.
 
 ghost use Rattle.std.specs.Prelude.{◌≡◌, IfOk, OnOk, codes, map, option_map};
+ghost use Rattle.std.specs.Option.{option_copied};
 ghost use Rattle.serde_json.specs.View.{members_view, view as data_of};
 ghost use Rattle.pylock_json.specs.Json.{members_of, object_of, with_row, with_rows};
 ghost use Rattle.pylock_readers.specs.Text.{text_pairs};
@@ -23,20 +24,25 @@ pub(crate) fn source_object(
     ensures { IfOk result (λ json. data_of json
         ≡ source_data number entry.now (lent_source source.entry)) }
 {
-    let mut object = entry_object(alloc, number, entry)?;
+    let mut object = entry_object(alloc, number, entry, entry.version())?;
     put_source(alloc, &mut object, source)?;
     Ok(object.into_json())
 }
 
-/// An object with the number, the name and the version of an entry.
-fn entry_object(alloc: Global, number: u64, entry: &Entry) -> Result<Object, AllocError>
+/// An object with the number, the name and the version of an entry, which is shown so.
+pub(crate) fn entry_object(
+    alloc: Global,
+    number: u64,
+    entry: &Entry,
+    version: Option<&str>,
+) -> Result<Object, AllocError>
     ensures { IfOk result (λ object. members_view object
-        ≡ members_of (entry_rows number entry.now)) }
+        ≡ members_of (entry_rows number entry.now (option_copied version.entry))) }
 {
     let mut object = Object::new(alloc);
     object.put_number(alloc, "id", number)?;
     object.put_text(alloc, "name", entry.name())?;
-    object.put_maybe(alloc, "version", entry.version())?;
+    object.put_maybe(alloc, "version", version)?;
     Ok(object)
 }
 

@@ -1,3 +1,2 @@
-pub mod QueryLemmas
 pub mod TextLemmas
 pub mod UserLemmas

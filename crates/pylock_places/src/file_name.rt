@@ -2,12 +2,11 @@
 //! as the steps see it.
 
 ghost use Rattle.std.specs.Prelude.{◌≡◌, IfOk, option_map, string_bytes};
-ghost use Rattle.std.specs.Option.{option_copied};
 ghost use Rattle.pylock_places.specs.FileName.{shown_file_name};
-ghost use Rattle.pylock_shown.specs.Hidden.{hidden};
 
+use crate::text::hidden_text;
 use pylock_readers::{DistributionFile, file_name_of};
-use pylock_shown::{hidden, hidden_name};
+use pylock_shown::hidden_name;
 use std::alloc::{AllocError, Global};
 
 /// The file name of a file, as it is shown: the end of its path or URL as that is shown, where the
@@ -21,17 +20,6 @@ pub fn shown_file_name(alloc: Global, file: &DistributionFile) -> Result<Option<
     let url = hidden_text(alloc, file.url())?;
     match file_name_of(alloc, name.as_deref(), path.as_deref(), url.as_deref())? {
         Some(found) => Ok(Some(hidden_name(alloc, found.as_str())?)),
-        None => Ok(None),
-    }
-}
-
-/// The text as it is shown, where there is one.
-fn hidden_text(alloc: Global, text: Option<&str>) -> Result<Option<String>, AllocError>
-    ensures { IfOk result (λ shown. option_map string_bytes shown
-        ≡ option_map hidden (option_copied text.entry)) }
-{
-    match text {
-        Some(text) => Ok(Some(hidden(alloc, text)?)),
         None => Ok(None),
     }
 }

@@ -17,5 +17,5 @@ mod url;
 pub use file_name::shown_file_name;
 pub use query::has_secret;
 pub use shown::{file_label, shown_place, source_label, source_text};
-pub use text::joined;
+pub use text::{hidden_text, joined};
 pub use url::{has_credentials, is_https, is_safe_remote};

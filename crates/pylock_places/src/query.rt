@@ -90,12 +90,5 @@ pub fn has_secret(url: &str) -> bool
 fn any_secret(query: &str) -> bool
     ensures { result ≡ list_any is_secret (pieces_at 38 query.now) }
 {
-    let mut left = query;
-    while let Some((pair, rest)) = around(left, b'&') {
-        if is_secret(pair) {
-            return true;
-        }
-        left = rest;
-    }
-    is_secret(left)
+    query.split('&').any(|pair| is_secret(pair))
 }

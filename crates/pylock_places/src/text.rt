@@ -1,8 +1,11 @@
-//! Texts that are searched for a byte, and joined.
+//! Texts that are searched for a byte, joined, and shown.
 
-ghost use Rattle.std.specs.Prelude.{◌≡◌, ◌==◌, ◌++◌, IfOk, string_bytes};
+ghost use Rattle.std.specs.Prelude.{◌≡◌, ◌==◌, ◌++◌, IfOk, option_map, string_bytes};
 ghost use Rattle.std.specs.List.{list_any};
+ghost use Rattle.std.specs.Option.{option_copied};
+ghost use Rattle.pylock_shown.specs.Hidden.{hidden};
 
+use pylock_shown::hidden;
 use std::alloc::{AllocError, Global};
 
 /// Whether the text has this byte.
@@ -19,4 +22,16 @@ pub fn joined(alloc: Global, front: &str, back: &str) -> Result<String, AllocErr
     let mut text = String::from_str(alloc, front)?;
     text.push_str(back)?;
     Ok(text)
+}
+
+/// The text as it is shown, where there is one. It takes memory for the text, once more while it
+/// grows.
+pub fn hidden_text(alloc: Global, text: Option<&str>) -> Result<Option<String>, AllocError>
+    ensures { IfOk result (λ shown. option_map string_bytes shown
+        ≡ option_map hidden (option_copied text.entry)) }
+{
+    match text {
+        Some(text) => Ok(Some(hidden(alloc, text)?)),
+        None => Ok(None),
+    }
 }

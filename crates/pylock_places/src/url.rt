@@ -2,7 +2,7 @@
 
 ghost use Rattle.std.specs.Prelude.{◌≡◌, false};
 ghost use Rattle.std.specs.Option.{option_copied};
-ghost use Rattle.pylock_places.specs.Inner.User.{password_after, user_in};
+ghost use Rattle.pylock_places.specs.Inner.User.{user_after};
 ghost use Rattle.pylock_places.specs.Url.{begins, behind_scheme, ends_authority, has_credentials};
 ghost use Rattle.pylock_places.specs.Url.{is_https, is_remote_path, is_safe_remote, names_alone};
 
@@ -67,16 +67,13 @@ fn ends_authority(b: u8) -> bool
 }
 
 /// Whether the URL names a user; where a name alone tells nothing, whether it names a password.
+#[tactic(auto, using(crate::proofs::UserLemmas::user_is))]
 pub fn has_credentials(url: &str) -> bool
     ensures { result ≡ has_credentials url.now }
 {
-    let Some(behind) = behind_scheme(url.as_bytes()) else {
-        return false;
-    };
-    if names_alone(url) {
-        has_password(behind)
-    } else {
-        has_user(behind)
+    match behind_scheme(url.as_bytes()) {
+        Some(behind) => has_user(!names_alone(url), behind),
+        None => false,
     }
 }
 
@@ -87,39 +84,23 @@ fn names_alone(url: &str) -> bool
     begins(b"ssh://", url) || begins(b"git+ssh://", url)
 }
 
-/// Whether a user stands before the name of the machine.
-fn has_user(behind: &[u8]) -> bool
-    ensures { result ≡ user_in behind.now }
+/// Whether a user stands before the name of the machine. Where not any user counts, a `:` has to
+/// stand in it.
+fn has_user(any: bool, behind: &[u8]) -> bool
+    ensures { result ≡ user_after any false behind.now }
 {
+    let mut counts = any;
+    let mut found = false;
     let mut left = behind;
     while let [b, rest @ ..] = left {
         if ends_authority(*b) {
-            return false;
+            return found;
         }
         if *b == b'@' {
-            return true;
+            found = counts;
         }
+        counts = counts || *b == b':';
         left = rest;
     }
-    false
-}
-
-/// Whether a `:` stands in the user.
-fn has_password(behind: &[u8]) -> bool
-    ensures { result ≡ password_after false false behind.now }
-{
-    let mut colon = false;
-    let mut password = false;
-    let mut left = behind;
-    while let [b, rest @ ..] = left {
-        if ends_authority(*b) {
-            return password;
-        }
-        if *b == b'@' {
-            password = colon;
-        }
-        colon = colon || *b == b':';
-        left = rest;
-    }
-    password
+    found
 }

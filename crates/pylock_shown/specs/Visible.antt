@@ -2,7 +2,7 @@
 use Rattle.std.specs.Prelude.{ℕ, ◌++◌, Bool, true, false, List, if◌then◌else◌, codes}
 use Rattle.std.specs.Char.{encode_utf8}
 use Rattle.std.specs.Fmt.{digits}
-use Rattle.std.specs.List.{flat_map}
+use Rattle.std.specs.List.{flat_map, list_any}
 use Rattle.std.specs.Str.{chars}
 use Rattle.ucd_category.specs.GeneralCategory.{general_category}
 use Rattle.ucd_category.specs.declared.GeneralCategory.{GeneralCategory}
@@ -21,6 +21,9 @@ steers _ = false
 
 abbrev pub is_control : ℕ → Bool
 is_control c = steers (general_category c)
+
+abbrev pub has_control : List ℕ → Bool
+has_control text = list_any is_control (chars text)
 
 -- a character as its number, in hex digits without leading zeros
 abbrev pub control_text : ℕ → List ℕ

@@ -19,5 +19,5 @@ mod visible;
 pub use hiding::{Shown, hidden, hidden_name, push_hidden};
 pub use text::around;
 pub use visible::{
-    is_control, is_printable, push_character, push_control, push_visible, visible_text,
+    has_control, is_control, is_printable, push_character, push_control, push_visible, visible_text,
 };

@@ -4,8 +4,8 @@ ghost use Rattle.std.specs.Prelude.{◌≡◌, ◌++◌, OnOk};
 ghost use Rattle.std.specs.Char.{encode_utf8};
 ghost use Rattle.std.specs.List.{list_all};
 ghost use Rattle.pylock_shown.specs.Inner.Printable.{is_printable};
-ghost use Rattle.pylock_shown.specs.Visible.{control_text, is_control, steers, visible};
-ghost use Rattle.pylock_shown.specs.Visible.{visible_character};
+ghost use Rattle.pylock_shown.specs.Visible.{control_text, has_control, is_control, steers};
+ghost use Rattle.pylock_shown.specs.Visible.{visible, visible_character};
 
 use std::alloc::{AllocError, Global};
 use ucd_category::GeneralCategory;
@@ -45,6 +45,22 @@ pub fn is_printable(bytes: &[u8]) -> bool
         most = most.max(*byte);
     }
     least > 31 && most < 127
+}
+
+/// Whether the text has a control character. Of nearly each text it is seen at once that it has
+/// none. It takes no memory.
+#[tactic(auto, using(crate::proofs::PrintableLemmas::printable_has_none))]
+pub fn has_control(text: &str) -> bool
+    ensures { result ≡ has_control text.now }
+{
+    !is_printable(text.as_bytes()) && any_control(text)
+}
+
+/// The same, character by character.
+fn any_control(text: &str) -> bool
+    ensures { result ≡ has_control text.now }
+{
+    text.chars().any(|c| is_control(c))
 }
 
 /// Pushes a character as `\u{HEX}`. It takes memory where the text has no room.

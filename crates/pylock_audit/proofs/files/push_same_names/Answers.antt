@@ -1,4 +1,4 @@
-use Rattle.std.proofs.Common.{◌≡◌, ◌∙◌, ◌++◌, ◌∷◌, ◌+◌, [], ap, append_assoc, map, string_bytes, sym, take}
+use Rattle.std.proofs.Common.{◌≡◌, ◌∙◌, ◌++◌, ◌∷◌, ◌+◌, [], ap, append_assoc, sym, take}
 use Rattle.std.proofs.lemmas.List.{take_all, take_more}
 use Rattle.pylock_readers.specs.Entry.{FileValue}
 use Rattle.pylock_audit.specs.Entry.{same_names, with_names}
@@ -13,7 +13,7 @@ loop-file-preserved c = λ names holds.
     ∙ ap (λ (file : FileValue). files ++ file ∷ []) (sym c.file-item.is) in
     let so_far = c.loop-file.invariant names holds in
     let earlier = with_names files names in
-    let front = map string_bytes c.args.list.now.items in (
+    let front = c.args.list.now.items in (
       rw (next, with_names_more files c.file-item.result names) (c.in_ok-push_same_name.ensures.earlier earlier so_far.0),
       c.in_ok-push_same_name.ensures.list earlier so_far.0
           ∙ ap (λ list. list ++ same_name earlier c.file-item.result) so_far.1
@@ -25,7 +25,7 @@ loop-file-preserved c = λ names holds.
 pub returns-clause-list : goal.returns-clause-list
 returns-clause-list c = λ names holds.
     let all = take_all c.loop-file.file-index c.args.files.now c.loop-file-test.false in
-    (c.loop-file.invariant names holds).1 ∙ ap (λ files. map string_bytes c.args.list.now.items ++ same_names names files) all
+    (c.loop-file.invariant names holds).1 ∙ ap (λ files. c.args.list.now.items ++ same_names names files) all
 
 pub returns-clause-earlier : goal.returns-clause-earlier
 returns-clause-earlier c = λ names holds.

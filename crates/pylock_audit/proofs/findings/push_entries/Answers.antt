@@ -1,7 +1,8 @@
 use Rattle.std.proofs.Common.{◌≡◌, ◌∙◌, ◌+◌, ◌<◌, ◌++◌, Some, ap, append_assoc, drop, get_or, length, ltb-true, subst, sym}
 use Rattle.pylock_audit.proofs.TableLemmas.{next_entry}
 use Rattle.pylock_audit.specs.Finding.{findings_at}
-use Rattle.pylock_audit.specs.Inner.Tables.{entry_findings_by, of_entries_by}
+use Rattle.pylock_audit.specs.Audit.{of_entries}
+use Rattle.pylock_audit.specs.Entry.{entry_findings}
 use Rattle.pylock_audit.proofs.findings.push_entries.Goals as goal
 
 pub loop-table-preserved : goal.loop-table-preserved
@@ -17,12 +18,12 @@ loop-table-preserved c =
     let looked = c.in-Some-get.ensures.lookup in
     let within : place < length entries = subst (λ es. place < length es) c.entries.ensures.entries (ltb-true place (length c.entries.result.now) (sym looked.0)) in
     let here : entry ≡ get_or entries place entry = subst (λ es. entry ≡ get_or es place entry) c.entries.ensures.entries looked.1 in
-    let those = findings_at (place + 1) (Some entry.name) (entry_findings_by asked head table entry) in
-    let rest = of_entries_by asked head ((place + 1) + 1) (drop (place + 1) entries) left in
+    let those = findings_at (place + 1) (Some entry.name) (entry_findings asked head table entry) in
+    let rest = of_entries asked head ((place + 1) + 1) (drop (place + 1) entries) left in
     let pushed : c.push_entry.new.found.items ≡ before ++ those =
-    c.in_ok-push_entry-in-Some-get.ensures ∙ ap (λ h. before ++ findings_at (place + 1) (Some entry.name) (entry_findings_by asked h table entry)) c.head.ensures in
+    c.in_ok-push_entry-in-Some-get.ensures ∙ ap (λ h. before ++ findings_at (place + 1) (Some entry.name) (entry_findings asked h table entry)) c.head.ensures in
     ap (λ found. found ++ rest) pushed
     ∙ append_assoc before those rest
     ∙ ap (λ more. before ++ more) (sym (next_entry asked head place entries entry table left within here))
-    ∙ ap (λ tables. before ++ of_entries_by asked head (place + 1) (drop place entries) tables) (sym c.in-Some.ensures.steps.0)
+    ∙ ap (λ tables. before ++ of_entries asked head (place + 1) (drop place entries) tables) (sym c.in-Some.ensures.steps.0)
     ∙ c.loop-table.invariant

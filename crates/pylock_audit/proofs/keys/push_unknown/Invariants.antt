@@ -7,6 +7,6 @@ use Rattle.pylock_audit.proofs.keys.push_unknown.Given as goal
 -- the paths so far, and those of the keys that are left
 abbrev pub invariant-loop-key : goal.invariant-loop-key
 invariant-loop-key l =
-    map string_bytes l.paths.items
+    l.paths.items
     ++ map (λ key. table_path l.table ++ hidden key) (filter (λ key. not (is_named l.table key)) (map string_bytes l.key-iterator))
-    ≡ map string_bytes l.initial.paths.items ++ unknown_keys l.table (table_view l.members)
+    ≡ l.initial.paths.items ++ unknown_keys l.table (table_view l.members)

@@ -1,6 +1,6 @@
 use Rattle.std.proofs.Common.{◌≡◌, ◌++◌, drop}
 use Rattle.toml.specs.View.{items_view}
-use Rattle.pylock_audit.specs.Inner.Tables.{of_tables}
+use Rattle.pylock_audit.specs.Audit.{of_tables}
 use Rattle.pylock_audit.proofs.tables.table_findings.Given as goal
 
 -- what is known so far, and what the values that are left give

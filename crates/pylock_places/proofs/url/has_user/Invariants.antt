@@ -1,9 +1,9 @@
-use Rattle.std.proofs.Common.{◌≡◌, length}
-use Rattle.pylock_places.specs.Inner.User.{user_in}
+use Rattle.std.proofs.Common.{◌≡◌, false, length}
+use Rattle.pylock_places.specs.Inner.User.{user_after}
 use Rattle.pylock_places.proofs.url.has_user.Given as goal
 
 abbrev pub invariant-loop-left : goal.invariant-loop-left
-invariant-loop-left l = user_in l.left ≡ user_in l.behind
+invariant-loop-left l = user_after l.counts l.found l.left ≡ user_after l.any false l.behind
 
 abbrev pub decreases-loop-left : goal.decreases-loop-left
 decreases-loop-left l = length l.left
