@@ -12,7 +12,7 @@ ghost use Rattle.std.specs.Option.{option_copied};
 ghost use Rattle.pylock_readers.specs.Text.{text_pairs};
 ghost use Rattle.pylock_run.specs.Inner.FileLine.{file_fields, file_line, file_line_size};
 ghost use Rattle.pylock_run.specs.Inner.FileLine.{AreOrdinary, AreShort, StandIn, joined_texts};
-ghost use Rattle.pylock_run.specs.Inner.OrdinaryBytes.{is_ordinary};
+ghost use Rattle.pylock_run.specs.Inner.Fields.{is_ordinary};
 ghost use Rattle.pylock_run.specs.Text.Field.{escaped_text, field};
 ghost use Rattle.pylock_run.specs.Text.Plan.{hashes_text, source_line};
 
