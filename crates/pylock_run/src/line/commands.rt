@@ -25,8 +25,8 @@ pub enum Command {
     Edit(Edit),
 }
 
-/// What a command's word and its argument ask for; an edit takes an absent argument as an empty one.
-/// It takes memory for what the edit holds.
+/// What a command's word and its argument ask for; an edit takes an absent argument as an empty
+/// one. It takes memory for what the edit holds.
 #[tactic(auto, unfolding(crate::specs::Line::Commands::command_after))]
 pub fn read_command(
     alloc: Global,
@@ -100,11 +100,7 @@ fn read_unset(argument: &str) -> Result<Change, LineRefusal>
 
 /// The argument, which has to be a name.
 #[tactic(auto, unfolding(crate::specs::Line::Commands::name_after))]
-fn read_name(
-    alloc: Global,
-    unknown: LineRefusal,
-    argument: &str,
-) -> Result<NormalName, LineRefusal>
+fn read_name(alloc: Global, unknown: LineRefusal, argument: &str) -> Result<NormalName, LineRefusal>
     ensures { Gives LineRefusal.Memory (λ name. name) result (name_after unknown argument.now) }
 {
     let text = nonempty_text(argument)?;

@@ -1,7 +1,7 @@
 //! The editing of a session by the bytes of the input, in whatever pieces they come.
 
 ghost use Rattle.std.specs.Prelude.{◌≡◌, ◌++◌, ◌<◌, ◌≤◌, ◌+◌, not, ◌&&◌, if◌then◌else◌, length};
-ghost use Rattle.std.specs.Prelude.{take, Ok, Err, OnOk, IfOk, IfErr, OnErr};
+ghost use Rattle.std.specs.Prelude.{take, OnOk, IfOk, IfErr, OnErr};
 ghost use Rattle.pylock_core.specs.Session.Steps.{answer};
 ghost use Rattle.pytext.specs.Agreement.{Gives};
 ghost use Rattle.pylock_run.specs.Report.{is_plan, after_line};

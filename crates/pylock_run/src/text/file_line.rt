@@ -5,7 +5,7 @@
 //! The room of the line is made at once, its texts are put in their places with `-` between them,
 //! all of them are tested in one look, and then the marks of a line stand in place of each `-`.
 
-ghost use Rattle.std.specs.Prelude.{◌≡◌, ◌++◌, ◌∷◌, ◌+◌, ◌<◌, ◌≤◌, length, take, drop, false, true};
+ghost use Rattle.std.specs.Prelude.{◌≡◌, ◌++◌, ◌∷◌, ◌+◌, ◌≤◌, length, take, drop, false, true};
 ghost use Rattle.std.specs.Prelude.{IfSome, IfOk, IsTrue};
 ghost use Rattle.std.specs.List.{list_all};
 ghost use Rattle.std.specs.Option.{option_copied};
