@@ -1,15 +1,13 @@
 //! The forms that list files.
 
 ghost use Rattle.std.specs.Prelude.{◌≡◌, ◌++◌, ◌∷◌, [], IfOk, OnOk, option_map, string_bytes};
-ghost use Rattle.std.specs.Prelude.{false, unwrap_or};
+ghost use Rattle.std.specs.Prelude.{false};
 ghost use Rattle.std.specs.BTreeMap.{get_by_text};
 ghost use Rattle.std.specs.List.{flat_map};
 ghost use Rattle.std.specs.Option.{option_copied};
 ghost use Rattle.pytext.specs.Agreement.{Gives};
 ghost use Rattle.pylock_core.specs.Session.Picks.{lent_source};
-ghost use Rattle.pylock_exports.specs.FileNames.{last_part};
 ghost use Rattle.pylock_exports.specs.Inner.{all_lent, Holds, lent};
-ghost use Rattle.pylock_exports.specs.Listed.{url_of};
 ghost use Rattle.pylock_exports.specs.Lists.{aria2_name_check, fetched_check, is_control_file};
 ghost use Rattle.pylock_exports.specs.Lists.{is_left, key_of, lacks, lines_named, list_check};
 ghost use Rattle.pylock_exports.specs.Lists.{listed_check, name_in, own_sum_check, source_lines};
