@@ -1,5 +1,5 @@
 -- A plan is dealt out between the two requirements files.
-use Rattle.std.proofs.Common.{◌≡◌, ◌∙◌, ℕ, Bool, true, false, not, cond, List, [], ◌∷◌, Ok, filter, map, sym, subst}
+use Rattle.std.proofs.Common.{[], ◌≡◌, ℕ, Bool, true, false, not, cond, List, ◌∷◌, Ok, map, sym, subst}
 use Rattle.pylock_core.specs.Session.Picks.{is_unhashed}
 use Rattle.pylock_exports.specs.Listed.{ListedValue}
 use Rattle.pylock_exports.specs.Requirements.{Deals, deals_none, deals_one, deals_other, header, part_of, requirement_line}

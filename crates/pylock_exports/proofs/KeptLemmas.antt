@@ -1,33 +1,36 @@
 -- The sources of a list and the table of their values, with one source more.
-use Rattle.std.proofs.Common.{◌≡◌, ◌∙◌, ℕ, Bool, true, false, cond, List, [], ◌∷◌, ◌++◌, Option, Some, None, Ok, Err, option_map, refl, sym, ap}
+use Rattle.std.proofs.Common.{[], ◌≡◌, ◌∙◌, ℕ, Bool, true, false, cond, List, ◌∷◌, ◌++◌, Option, Some, None, Result, Ok, Err, option_map, refl, sym, ap}
 use Rattle.std.proofs.lemmas.Bool.Decides.{Decides-like, same_from_decides}
+use Rattle.std.specs.Prelude.{⊤}
 use Rattle.std.specs.Cmp.Lexicographic.{bytes_decides}
 use Rattle.std.specs.List.{find}
 use Rattle.std.specs.Map.{update}
 use Rattle.std.specs.Str.{bytes_eq}
 use denote.Ref.{Bor}
-use Rattle.pylock_exports.specs.Inner.Kept.{Holds}
+use Rattle.pytext.specs.Agreement.{Gives}
+use Rattle.pytext.specs.Results.{◌>>=◌}
+use Rattle.pylock_exports.specs.Inner.{Holds}
 use Rattle.pylock_exports.specs.Listed.{ListedValue}
 use Rattle.pylock_exports.specs.Lists.{is_left, key_of, list_check, value_named, value_of, with_source}
-use Rattle.pylock_exports.specs.Refusals.{at_number, other_value}
+use Rattle.pylock_exports.specs.Parts.{at_number, require}
 use Rattle.pylock_command.specs.declared.form.FileFormat.{FileFormat}
+use Rattle.pylock_exports.specs.declared.refusal.ExportError.{ExportError}
+use Rattle.pylock_exports.specs.declared.refusal.ExportError.TheVariants.{Memory}
+use Rattle.pylock_exports.specs.declared.refusal.Field.TheVariants as field
+use Rattle.pylock_exports.specs.declared.refusal.Reason.TheVariants as reason
 
 -- ---- what is made of it
 
-pub kept_new : (form : FileFormat) (kept : List ListedValue) (s : ListedValue) → is_left form s.source ≡ false
-    → at_number s.number (list_check form s.source) ≡ Ok tt → value_named form (key_of form s.source) kept ≡ None
-    → with_source form kept s ≡ Ok (kept ++ s ∷ [])
-kept_new form kept s listed taken none = rw (listed, taken, none) refl
-
-pub kept_same : (form : FileFormat) (kept : List ListedValue) (s : ListedValue) (value : List ℕ) → is_left form s.source ≡ false
+-- a source that is named as an earlier one
+pub kept_again : (form : FileFormat) (kept : List ListedValue) (s : ListedValue) (value : List ℕ) (result : Result ⊤ ExportError) → is_left form s.source ≡ false
     → at_number s.number (list_check form s.source) ≡ Ok tt → value_named form (key_of form s.source) kept ≡ Some value
-    → bytes_eq value (value_of form s.source) ≡ true → with_source form kept s ≡ Ok kept
-kept_same form kept s value listed taken some same = rw (listed, taken, some, same) refl
-
-pub kept_other : (form : FileFormat) (kept : List ListedValue) (s : ListedValue) (value : List ℕ) → is_left form s.source ≡ false
-    → at_number s.number (list_check form s.source) ≡ Ok tt → value_named form (key_of form s.source) kept ≡ Some value
-    → bytes_eq value (value_of form s.source) ≡ false → with_source form kept s ≡ Err (other_value s.number)
-kept_other form kept s value listed taken some other = rw (listed, taken, some, other) refl
+    → result ≡ at_number s.number (require field.Hash reason.OtherValue (bytes_eq value (value_of form s.source)))
+    → Gives Memory (λ _. kept) result (with_source form kept s)
+kept_again form kept s value result listed taken some is = rw (listed, taken, some, ← is) (by result)
+  where
+    by : (r : Result ⊤ ExportError) → Gives Memory (λ _. kept) r (r >>= (λ _. Ok kept))
+    by (Ok u) = refl
+    by (Err e) = λ _. refl
 
 -- ---- the table
 

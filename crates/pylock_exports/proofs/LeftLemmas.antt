@@ -1,7 +1,7 @@
 -- What is left out, one source after the other.
-use Rattle.std.proofs.Common.{◌≡◌, ◌∙◌, ℕ, ◌+◌, ◌-◌, ◌≤◌, ◌<◌, Bool, true, false, cond, List, [], ◌∷◌, ◌++◌, arith, length, map, take, refl, sym, ap, append_assoc, append-nil, length-append, suc, zero}
+use Rattle.std.proofs.Common.{[], ◌≡◌, ◌∙◌, ℕ, ◌+◌, ◌-◌, true, false, List, ◌∷◌, ◌++◌, arith, length, map, take, refl, sym, ap, append_assoc, append-nil, length-append, suc, zero}
 use Rattle.pylock_exports.specs.Listed.{ListedValue}
-use Rattle.pylock_exports.specs.Texts.{entry_of, is_left_out, left_sources}
+use Rattle.pylock_exports.specs.Texts.{entry_of, is_left_out, left_out, left_sources}
 use Rattle.pylock_command.specs.declared.form.PlanFormat.{PlanFormat}
 
 abbrev Entries : Type 0
@@ -29,12 +29,26 @@ taken first x more (suc room) is =
     ∙ ap (λ n. (first ++ x ∷ []) ++ take n more) (sym left)
     ∙ ap (λ l. (first ++ l) ++ take (5 - length (first ++ l)) more) (sym one)
 
--- one more source
-pub left_more : (form : PlanFormat) (first new : Entries) (s : ListedValue) (rest : List ListedValue)
-    → new ≡ first ++ cond (is_left_out form s.source) (take (5 - length first) (entry_of s ∷ [])) [] → with_left form new rest ≡ with_left form first (s ∷ rest)
-left_more form first new s rest is = ap (λ n. with_left form n rest) is ∙ by (is_left_out form s.source)
-  where
-    by : (b : Bool) → with_left form (first ++ cond b (take (5 - length first) (entry_of s ∷ [])) []) rest
-        ≡ first ++ take (5 - length first) (map entry_of (cond b (s ∷ left_sources form rest) (left_sources form rest)))
-    by true = sym (taken first (entry_of s) (map entry_of (left_sources form rest)) (5 - length first) refl)
-    by false = ap (λ f. with_left form f rest) (append-nil first)
+-- one more source, of which there is no line
+pub left_more : (form : PlanFormat) (first new : Entries) (s : ListedValue) (rest : List ListedValue) → is_left_out form s.source ≡ true
+    → new ≡ first ++ take (5 - length first) (entry_of s ∷ []) → with_left form new rest ≡ with_left form first (s ∷ rest)
+left_more form first new s rest left is =
+    rw left (ap (λ n. with_left form n rest) is ∙ sym (taken first (entry_of s) (map entry_of (left_sources form rest)) (5 - length first) refl))
+
+-- one that has a line
+pub line_more : (form : PlanFormat) (first : Entries) (s : ListedValue) (rest : List ListedValue) → is_left_out form s.source ≡ false
+    → with_left form first rest ≡ with_left form first (s ∷ rest)
+line_more form first s rest has = rw has refl
+
+-- how many they are
+pub count_more : (form : PlanFormat) (count total : ℕ) (s : ListedValue) (rest : List ListedValue) → is_left_out form s.source ≡ true
+    → count + left_out form (s ∷ rest) ≡ total → count + 1 + left_out form rest ≡ total
+count_more form count total s rest left is =
+    let one : left_out form (s ∷ rest) ≡ suc (left_out form rest) = rw left refl in
+    omega (arith, one, is)
+
+pub count_other : (form : PlanFormat) (count total : ℕ) (s : ListedValue) (rest : List ListedValue) → is_left_out form s.source ≡ false
+    → count + left_out form (s ∷ rest) ≡ total → count + left_out form rest ≡ total
+count_other form count total s rest has is =
+    let same : left_out form rest ≡ left_out form (s ∷ rest) = rw has refl in
+    ap (λ n. count + n) same ∙ is

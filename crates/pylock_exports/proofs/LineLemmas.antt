@@ -1,24 +1,23 @@
 -- Lines of what was taken: each part that a check takes is of its form.
-use Rattle.std.proofs.Common.{◌≡◌, ◌∙◌, ◌⊎◌, inl, inr, ℕ, Bool, true, false, not, ◌||◌, cond, codes, List, [], ◌∷◌, ◌++◌, map, flat_map, Option, Some, None, Result, Ok, Err, unwrap_or, refl, sym, ap, subst}
+use Rattle.std.proofs.Common.{[], ◌≡◌, ◌∙◌, ◌⊎◌, inl, inr, ℕ, Bool, true, false, not, ◌||◌, cond, codes, List, ◌∷◌, ◌++◌, map, flat_map, Option, Some, None, Result, Ok, Err, option_map, unwrap_or, refl, sym, subst}
+use Rattle.std.proofs.lemmas.Bool.{not-true}
 use Rattle.std.proofs.lemmas.List.Elements.{All-from_recursion}
 use Rattle.std.specs.Prelude.{⊤}
 use Rattle.std.specs.Char.{is_ascii_alphanumeric}
 use Rattle.std.specs.List.{All, AllByRecursion}
 use Rattle.std.specs.Option.{option_map_or}
 use Rattle.pytext.specs.Bytes.{starts}
+use Rattle.pytext.specs.Options.{either}
 use Rattle.pytext.specs.Results.{◌>>=◌}
 use Rattle.pylock_readers.specs.Entry.{DirectoryValue, VcsValue}
 use Rattle.pylock_readers.specs.Entry.FileName.{is_slash}
 use Rattle.pylock_core.specs.Session.Picks.{SourceValue, OfVcs, OfDirectory, OfArchive, OfWheel, OfSdist, source_hashes, source_location, source_subdirectory}
 use Rattle.pylock_exports.specs.FileNames.{ends_as_file, last_part}
-use Rattle.pylock_exports.specs.Line.{EndsInFile, IsCheckoutUrl, IsCommit, IsDirectory, IsDirectoryPath, IsFetchedUrl, IsFileName, IsFilePath, IsFileUrl, IsFragment, IsHash, IsHashOption, IsLine, IsName, IsOf, IsPath, IsPlace, IsPlainPath, IsSub, IsSubdirectory, IsSumName, IsWebUrl, folder}
-use Rattle.pylock_exports.specs.Line.{option_sha256, option_sha384, option_sha512}
-use Rattle.pylock_exports.specs.Line.{sum_line, aria2_url, aria2_file, aria2_hash, aria2_torrent, aria2_metalink, aria2_renaming, url_line, header_line, place_line, path_line, local_header_line, checkout_line, directory_line}
+use Rattle.pylock_exports.specs.Line.{EndsInFile, IsCheckoutUrl, IsCommit, IsDirectoryPath, IsFetchedUrl, IsFileName, IsFilePath, IsFileUrl, IsFragment, IsHash, IsHashOption, IsLine, IsName, IsOf, IsPath, IsPlace, IsPlainPath, IsSub, IsSubdirectory, IsSumName, IsWebUrl, option_sha256, option_sha384, option_sha512, sum_line, aria2_url, aria2_file, aria2_hash, aria2_torrent, aria2_metalink, aria2_renaming, url_line, header_line, place_line, path_line, local_header_line, checkout_line, directory_line}
 use Rattle.pylock_exports.specs.Listed.{ListedValue, file_name_of_source, hash_of, last_of, path_alone, sha256_of, url_of}
-use Rattle.pylock_exports.specs.Lists.{aria2_name_check, fetched_check, is_control_file, key_of, list_check, own_sum_check, source_lines, sum_name, sum_name_check, value_of, with_sources}
-use Rattle.pylock_exports.specs.Parts.{Check, any_url_check, behind, checkout_url_check, commit_check, directory_path_check, file_name_check, has_hex_commits, hash_check, host_check, host_cut, is_file_url, name_check, path_check, plain_check, require, subdirectory_check, there, web_url_check, where_there}
-use Rattle.pylock_exports.specs.Refusals.{at_number}
-use Rattle.pylock_exports.specs.Requirements.{best_hash_check, best_hash_option, directory_check, directory_end, fragment, hashed_check, hashed_line, hashes_check, hashes_option, header, is_in, location_text, named, part_of, parts_check, path_text, place_check, project_of, requirement_check, requirement_line, requirements_lines, source_check, source_line, source_requirements, vcs_check, vcs_line}
+use Rattle.pylock_exports.specs.Lists.{fetched_check, is_control_file, key_of, list_check, own_sum_check, source_lines, sum_name, sum_name_check, value_of, with_sources}
+use Rattle.pylock_exports.specs.Parts.{Check, any_url_check, at_number, behind, checkout_url_check, commit_check, directory_path_check, file_name_check, has_hex_commits, hash_check, host_check, host_cut, is_file_url, missing, name_check, path_check, plain_check, require, subdirectory_check, there, web_url_check, where_there}
+use Rattle.pylock_exports.specs.Requirements.{directory_check, directory_end, fragment, hash_option, hashed_check, hashed_line, hashes_check, hashes_option, header, is_in, location_text, named, part_of, parts_check, place_check, project_of, requirement_check, requirement_line, requirements_check, requirements_lines, source_check, source_line, vcs_check, vcs_line}
 use Rattle.pylock_exports.specs.Texts.{format_lines}
 use Rattle.pylock_exports.proofs.OnceLemmas.{all_from}
 use Rattle.pylock_exports.proofs.SplitLemmas.{behind_found, joined_five, web_found}
@@ -53,10 +52,6 @@ numbered n (Err e) taken = cc taken
 is_there : (field : Field) (check : List ℕ → Check) (text : Option (List ℕ)) → there field check text ≡ Ok tt → check (unwrap_or text []) ≡ Ok tt
 is_there field check None taken = cc taken
 is_there field check (Some text) taken = taken
-
-not_true : (b : Bool) → not b ≡ true → b ≡ false
-not_true true is = cc is
-not_true false is = refl
 
 -- ---- parts
 
@@ -104,25 +99,25 @@ checkout_url_is : (url : List ℕ) → checkout_url_check url ≡ Ok tt → IsCh
 checkout_url_is url taken =
     let two = both _ _ taken in
     let one = both _ _ two.0 in
-    (web_url_is class.PipUrl url one.0, not_true _ (required _ _ _ one.1), required _ _ _ two.1)
+    (web_url_is class.PipUrl url one.0, not-true _ (required _ _ _ one.1), required _ _ _ two.1)
 
 plain_is : (field : Field) (path : List ℕ) → plain_check field path ≡ Ok tt → IsPlainPath path
 plain_is field path taken =
     let two = both _ _ taken in
     let one = both _ _ two.0 in
-    record { characters = required _ _ _ one.0; something = not_true _ (required _ _ _ one.1); single = not_true _ (required _ _ _ two.1) }
+    record { characters = required _ _ _ one.0; something = not-true _ (required _ _ _ one.1); single = not-true _ (required _ _ _ two.1) }
 
 path_is : (path : List ℕ) → path_check path ≡ Ok tt → IsPath path
-path_is path taken = let p = both _ _ taken in (plain_is field.Path path p.0, not_true _ (required _ _ _ p.1))
+path_is path taken = let p = both _ _ taken in (plain_is field.Path path p.0, not-true _ (required _ _ _ p.1))
 
 directory_path_is : (path : List ℕ) → directory_path_check path ≡ Ok tt → IsDirectoryPath path
-directory_path_is path taken = let p = both _ _ taken in (plain_is field.Path path p.0, not_true _ (required _ _ _ p.1))
+directory_path_is path taken = let p = both _ _ taken in (plain_is field.Path path p.0, not-true _ (required _ _ _ p.1))
 
 subdirectory_is : (path : List ℕ) → subdirectory_check path ≡ Ok tt → IsSubdirectory path
 subdirectory_is path taken =
     let two = both _ _ taken in
     let one = both _ _ two.0 in
-    ((plain_is field.Subdirectory path one.0, not_true _ (required _ _ _ one.1)), not_true _ (required _ _ _ two.1))
+    ((plain_is field.Subdirectory path one.0, not-true _ (required _ _ _ one.1)), not-true _ (required _ _ _ two.1))
 
 hash_is : (digits : ℕ) (value : List ℕ) → hash_check digits value ≡ Ok tt → IsHash digits value
 hash_is digits value taken = let p = both _ _ taken in (required _ _ _ p.0, required _ _ _ p.1)
@@ -132,7 +127,7 @@ commit_is kind commit = by (has_hex_commits kind) refl
   where
     by : (hex : Bool) → has_hex_commits kind ≡ hex → commit_check kind commit ≡ Ok tt → IsCommit kind commit
     by true is taken = let p = both _ _ (rw is at taken) in inl (is, required _ _ _ p.0, required _ _ _ p.1)
-    by false is taken = let p = both _ _ (rw is at taken) in inr (is, required _ _ _ p.0, not_true _ (required _ _ _ p.1))
+    by false is taken = let p = both _ _ (rw is at taken) in inr (is, required _ _ _ p.0, not-true _ (required _ _ _ p.1))
 
 -- ---- parts that may be absent
 
@@ -144,14 +139,21 @@ sub_is : (sub : Option (List ℕ)) → where_there subdirectory_check sub ≡ Ok
 sub_is None taken = tt
 sub_is (Some path) taken = subdirectory_is path taken
 
-best_is : (sha256 sha384 sha512 : Option (List ℕ)) → best_hash_check sha256 sha384 sha512 ≡ Ok tt → IsHashOption (best_hash_option sha256 sha384 sha512)
-best_is (Some value) sha384 sha512 taken = option_sha256 value (hash_is 64 value taken)
-best_is None (Some value) sha512 taken = option_sha384 value (hash_is 96 value taken)
-best_is None None (Some value) taken = option_sha512 value (hash_is 128 value taken)
-best_is None None None taken = cc taken
+-- the hash that is written of these
+abbrev best_of : (sha256 sha384 sha512 : Option (List ℕ)) → Option (List ℕ × ℕ × List ℕ)
+best_of sha256 sha384 sha512 =
+    either (option_map (λ value. (codes "sha256", 64, value)) sha256)
+    (either (option_map (λ value. (codes "sha384", 96, value)) sha384) (option_map (λ value. (codes "sha512", 128, value)) sha512))
 
 hashes_are : (hashes : List (List ℕ × List ℕ)) → hashes_check hashes ≡ Ok tt → IsHashOption (hashes_option hashes)
-hashes_are hashes taken = best_is (hash_of (codes "sha256") hashes) (hash_of (codes "sha384") hashes) (hash_of (codes "sha512") hashes) taken
+hashes_are hashes = by (hash_of (codes "sha256") hashes) (hash_of (codes "sha384") hashes) (hash_of (codes "sha512") hashes)
+  where
+    by : (a b c : Option (List ℕ)) → option_map_or (λ hash. hash_check hash.1 hash.2) (best_of a b c) (Err (missing field.Hash)) ≡ Ok tt
+        → IsHashOption (option_map_or hash_option (best_of a b c) [])
+    by (Some value) b c taken = option_sha256 value (hash_is 64 value taken)
+    by None (Some value) c taken = option_sha384 value (hash_is 96 value taken)
+    by None None (Some value) taken = option_sha512 value (hash_is 128 value taken)
+    by None None None taken = cc taken
 
 -- ---- lines of requirements
 
@@ -198,7 +200,7 @@ directory_is directory taken =
     by : (editable : Bool) → (editable || not (ends_as_file (directory_end directory))) ≡ true
         → (cond editable (codes "-e ") [] ≡ codes "-e ") ⊎ ((cond editable (codes "-e ") [] ≡ []) × (ends_as_file (directory_end directory) ≡ false))
     by true is = inl refl
-    by false is = inr (refl, not_true _ is)
+    by false is = inr (refl, not-true _ is)
 
 hashed_is : (name : List ℕ) (source : SourceValue) (project : Option (List ℕ)) → IsName name
     → hashed_check name source (last_part (source_location source).url (source_location source).path) project ≡ Ok tt → IsLine format.Requirements (hashed_line name source)
@@ -233,40 +235,22 @@ requirement_is part s has taken =
     let p = both _ _ (numbered s.number (parts_check s) taken) in
     source_is part s.entry.name s.source (project_of s.source) has (name_is s.entry.name p.0) p.1
 
--- the lines are one for each source, each as it has to be
-abbrev Are : PlanPart → List ListedValue → List (List ℕ) → Type 0
-Are part sources lines = (lines ≡ map requirement_line sources) × AllByRecursion (IsLine (form_of part)) lines
+abbrev Taken : List ListedValue → Type 0
+Taken sources = AllByRecursion (λ s. requirement_check s ≡ Ok tt) sources
 
-one_more : (part : PlanPart) (s : ListedValue) (rest : List ListedValue) (lines : List (List ℕ)) (check : Result ⊤ ExportError) (others : Result (List (List ℕ)) ExportError)
-    → is_in part s.source ≡ true → requirement_check s ≡ check → ((found : List (List ℕ)) → others ≡ Ok found → Are part rest found)
-    → (check >>= (λ _. others >>= (λ found. Ok (requirement_line s ∷ found)))) ≡ Ok lines → Are part (s ∷ rest) lines
-one_more part s rest lines (Err e) others has is more made = cc made
-one_more part s rest lines (Ok u) (Err e) has is more made = cc made
-one_more part s rest lines (Ok u) (Ok found) has is more made =
-    let same : lines ≡ requirement_line s ∷ found = cc made in
-    let later = more found refl in
-    (same ∙ ap (λ ls. requirement_line s ∷ ls) later.0, subst (AllByRecursion (IsLine (form_of part))) (sym same) (requirement_is part s has is, later.1))
+all_taken : (sources : List ListedValue) → requirements_check sources ≡ Ok tt → Taken sources
+all_taken [] taken = tt
+all_taken (s ∷ rest) taken = let p = both _ _ taken in (p.0, all_taken rest p.1)
 
--- the sources of a part, each with what puts it there
-requirements_are : (part : PlanPart) (sources : List ListedValue) (lines : List (List ℕ)) → AllByRecursion (λ s. is_in part s.source ≡ true) sources
-    → source_requirements sources ≡ Ok lines → Are part sources lines
-requirements_are part [] lines all made =
-    let same : lines ≡ [] = cc made in
-    (same, subst (AllByRecursion (IsLine (form_of part))) (sym same) tt)
-requirements_are part (s ∷ rest) lines all made =
-    one_more part s rest lines (requirement_check s) (source_requirements rest) all.0 refl (λ found is. requirements_are part rest found all.1 is) made
-
-all_in : (part : PlanPart) (sources : List ListedValue) → AllByRecursion (λ s. is_in part s.source ≡ true) (part_of part sources)
-all_in part [] = tt
-all_in part (s ∷ rest) = by (is_in part s.source) refl (all_in part rest)
+-- the line of each source is as it has to be
+requirements_are : (part : PlanPart) (sources : List ListedValue) → Taken (part_of part sources) → AllByRecursion (IsLine (form_of part)) (map requirement_line (part_of part sources))
+requirements_are part [] taken = tt
+requirements_are part (s ∷ rest) taken = by (is_in part s.source) refl (requirements_are part rest) taken
   where
-    by : (b : Bool) → is_in part s.source ≡ b → AllByRecursion (λ s. is_in part s.source ≡ true) (part_of part rest)
-        → AllByRecursion (λ s. is_in part s.source ≡ true) (cond b (s ∷ part_of part rest) (part_of part rest))
-    by true is more = (is, more)
-    by false is more = more
-
-part_are : (part : PlanPart) (sources : List ListedValue) (lines : List (List ℕ)) → source_requirements (part_of part sources) ≡ Ok lines → Are part (part_of part sources) lines
-part_are part sources lines made = requirements_are part (part_of part sources) lines (all_in part sources) made
+    by : (b : Bool) → is_in part s.source ≡ b → (Taken (part_of part rest) → AllByRecursion (IsLine (form_of part)) (map requirement_line (part_of part rest)))
+        → Taken (cond b (s ∷ part_of part rest) (part_of part rest)) → AllByRecursion (IsLine (form_of part)) (map requirement_line (cond b (s ∷ part_of part rest) (part_of part rest)))
+    by true has more taken = (requirement_is part s has taken.0, more taken.1)
+    by false has more taken = more taken
 
 -- ---- lines of lists
 
@@ -308,7 +292,7 @@ lines_are Aria2 source taken =
     let name = both _ _ one.0 in (
       aria2_url (unwrap_or (url_of source) []) (fetched_is (url_of source) two.1),
       (
-        aria2_file (key_of Aria2 source) (file_name_is field.FileName (key_of Aria2 source) name.0) (not_true (is_control_file (key_of Aria2 source)) (required _ _ _ name.1)),
+        aria2_file (key_of Aria2 source) (file_name_is field.FileName (key_of Aria2 source) name.0) (not-true (is_control_file (key_of Aria2 source)) (required _ _ _ name.1)),
         (aria2_hash (value_of Aria2 source) (sum_is source one.1), (aria2_torrent, (aria2_metalink, (aria2_renaming, tt)))),
       ),
     )
@@ -329,14 +313,14 @@ header_is Hashed = header_line
 header_is Local = local_header_line
 
 pub allowed_part : (part : PlanPart) (sources : List ListedValue) (lines : List (List ℕ)) → requirements_lines part sources ≡ Ok lines → All (IsLine (form_of part)) lines
-allowed_part part sources lines made = by (source_requirements (part_of part sources)) refl made
+allowed_part part sources lines made = by (requirements_check (part_of part sources)) refl made
   where
-    by : (r : Result (List (List ℕ)) ExportError) → source_requirements (part_of part sources) ≡ r → (r >>= (λ found. Ok (header ∷ found))) ≡ Ok lines
+    by : (r : Result ⊤ ExportError) → requirements_check (part_of part sources) ≡ r → (r >>= (λ _. Ok (header ∷ map requirement_line (part_of part sources)))) ≡ Ok lines
         → All (IsLine (form_of part)) lines
     by (Err e) is made = cc made
-    by (Ok found) is made =
-        let same : header ∷ found ≡ lines = cc made in
-        subst (All (IsLine (form_of part))) same (All-from_recursion (IsLine (form_of part)) (header ∷ found) (header_is part, (part_are part sources found is).1))
+    by (Ok u) is made =
+        let same : header ∷ map requirement_line (part_of part sources) ≡ lines = cc made in
+        subst (All (IsLine (form_of part))) same (All-from_recursion (IsLine (form_of part)) (header ∷ map requirement_line (part_of part sources)) (header_is part, requirements_are part sources (all_taken (part_of part sources) is)))
 
 pub allowed_lines : (form : PlanFormat) (sources : List ListedValue) (lines : List (List ℕ)) → format_lines form sources ≡ Ok lines → All (IsLine form) lines
 allowed_lines format.Requirements sources lines made = allowed_part Hashed sources lines made
@@ -353,11 +337,9 @@ allowed_lines (format.Files form) sources lines made = by (with_sources form [] 
 
 pub requirement_each : (part : PlanPart) (sources : List ListedValue) (lines : List (List ℕ)) → requirements_lines part sources ≡ Ok lines
     → lines ≡ header ∷ map requirement_line (part_of part sources)
-requirement_each part sources lines made = by (source_requirements (part_of part sources)) refl made
+requirement_each part sources lines made = by (requirements_check (part_of part sources)) made
   where
-    by : (r : Result (List (List ℕ)) ExportError) → source_requirements (part_of part sources) ≡ r → (r >>= (λ found. Ok (header ∷ found))) ≡ Ok lines
+    by : (r : Result ⊤ ExportError) → (r >>= (λ _. Ok (header ∷ map requirement_line (part_of part sources)))) ≡ Ok lines
         → lines ≡ header ∷ map requirement_line (part_of part sources)
-    by (Err e) is made = cc made
-    by (Ok found) is made =
-        let same : lines ≡ header ∷ found = cc made in
-        same ∙ ap (λ ls. header ∷ ls) (part_are part sources found is).0
+    by (Err e) made = cc made
+    by (Ok u) made = cc made

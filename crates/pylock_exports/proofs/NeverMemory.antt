@@ -1,13 +1,12 @@
 -- No form is ever out of memory.
-use Rattle.std.proofs.Common.{◌≡◌, ℕ, List, [], ◌∷◌, ◌++◌, Option, Some, None, Ok, Err, flat_map}
+use Rattle.std.proofs.Common.{◌≡◌, ℕ, List, [], ◌∷◌, ◌++◌, Option, Some, None, Ok, Err, flat_map, map}
 use Rattle.std.specs.Str.{bytes_eq}
 use Rattle.pytext.specs.Results.{◌>>=◌}
 use Rattle.pytext.proofs.NeverLemmas.{Never, never_cond, never_err, never_ok, never_then}
 use Rattle.pylock_exports.specs.Listed.{ListedValue}
 use Rattle.pylock_exports.specs.Lists.{beside, is_left, key_of, list_check, source_lines, value_named, value_of, with_source, with_sources}
-use Rattle.pylock_exports.specs.Parts.{Check}
-use Rattle.pylock_exports.specs.Refusals.{at_number, other_value}
-use Rattle.pylock_exports.specs.Requirements.{header, part_of, parts_check, requirement_check, requirement_line, requirements_lines, source_requirements}
+use Rattle.pylock_exports.specs.Parts.{Check, at_number, require}
+use Rattle.pylock_exports.specs.Requirements.{header, part_of, parts_check, requirement_check, requirement_line, requirements_check, requirements_lines}
 use Rattle.pylock_exports.specs.Texts.{format_lines, format_text, lines_text}
 use Rattle.pylock_command.specs.declared.form.PlanFormat.{PlanFormat}
 use Rattle.pylock_command.specs.declared.form.PlanFormat.TheVariants as format
@@ -15,7 +14,9 @@ use Rattle.pylock_command.specs.declared.form.FileFormat.{FileFormat}
 use Rattle.pylock_exports.specs.declared.requirements.PlanPart.{PlanPart}
 use Rattle.pylock_exports.specs.declared.requirements.PlanPart.TheVariants.{Hashed, Local}
 use Rattle.pylock_exports.specs.declared.refusal.ExportError.TheVariants.{Memory, Refused}
+use Rattle.pylock_exports.specs.declared.refusal.Field.TheVariants as field
 use Rattle.pylock_exports.specs.declared.refusal.FormatRefusal.{FormatRefusal}
+use Rattle.pylock_exports.specs.declared.refusal.Reason.TheVariants as reason
 
 other : (refusal : FormatRefusal) → Refused refusal ≡ Memory → ⊥
 other refusal e = cc e
@@ -27,8 +28,8 @@ never_numbered n (Err fault) = never_err Memory (Refused (record { number = n; f
 never_beside : (form : FileFormat) (kept : List ListedValue) (s : ListedValue) (value : Option (List ℕ)) → Never Memory (beside form kept s value)
 never_beside form kept s None = never_ok Memory (kept ++ s ∷ [])
 never_beside form kept s (Some value) =
-    never_cond Memory (bytes_eq value (value_of form s.source)) (Ok kept) (Err (other_value s.number)) (never_ok Memory kept)
-    (never_err Memory (other_value s.number) (λ e. cc e))
+    let check = require field.Hash reason.OtherValue (bytes_eq value (value_of form s.source)) in
+    never_then Memory (at_number s.number check) (λ _. Ok kept) (never_numbered s.number check) (λ _. never_ok Memory kept)
 
 never_source : (form : FileFormat) (kept : List ListedValue) (s : ListedValue) → Never Memory (with_source form kept s)
 never_source form kept s =
@@ -45,17 +46,14 @@ never_sources form kept (s ∷ rest) =
 never_requirement : (s : ListedValue) → Never Memory (requirement_check s)
 never_requirement s = never_numbered s.number (parts_check s)
 
-never_requirements : (sources : List ListedValue) → Never Memory (source_requirements sources)
-never_requirements [] = never_ok Memory []
-never_requirements (s ∷ rest) =
-    never_then Memory (requirement_check s) (λ _. source_requirements rest >>= (λ lines. Ok (requirement_line s ∷ lines))) (never_requirement s)
-    (λ _. never_then Memory (source_requirements rest) (λ lines. Ok (requirement_line s ∷ lines)) (never_requirements rest)
-    (λ lines. never_ok Memory (requirement_line s ∷ lines)))
+never_requirements : (sources : List ListedValue) → Never Memory (requirements_check sources)
+never_requirements [] = never_ok Memory tt
+never_requirements (s ∷ rest) = never_then Memory (requirement_check s) (λ _. requirements_check rest) (never_requirement s) (λ _. never_requirements rest)
 
 never_part : (part : PlanPart) (sources : List ListedValue) → Never Memory (requirements_lines part sources)
 never_part part sources =
-    never_then Memory (source_requirements (part_of part sources)) (λ lines. Ok (header ∷ lines)) (never_requirements (part_of part sources))
-    (λ lines. never_ok Memory (header ∷ lines))
+    let lines = header ∷ map requirement_line (part_of part sources) in
+    never_then Memory (requirements_check (part_of part sources)) (λ _. Ok lines) (never_requirements (part_of part sources)) (λ _. never_ok Memory lines)
 
 never_lines : (form : PlanFormat) (sources : List ListedValue) → Never Memory (format_lines form sources)
 never_lines format.Requirements sources = never_part Hashed sources

@@ -1,7 +1,7 @@
 -- What is left of a list, one element on.
 use Rattle.std.proofs.Common.{◌≡◌, ◌∙◌, ℕ, ◌+◌, ◌<◌, List, ◌∷◌, ap, arith, drop, get_or, length, suc, sym}
 use Rattle.std.proofs.Math.Seq.{drop-cons}
-use Rattle.pylock_exports.specs.Inner.Lent.{all_lent, lent}
+use Rattle.pylock_exports.specs.Inner.{all_lent, lent}
 use Rattle.pylock_exports.specs.declared.listed.Listed.{Listed}
 
 pub next : {A : Type 0} (xs : List A) (i : ℕ) (x : A) → i < length xs → x ≡ get_or xs i x → drop i xs ≡ x ∷ drop (i + 1) xs

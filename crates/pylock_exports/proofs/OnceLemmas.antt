@@ -9,10 +9,11 @@ use Rattle.std.specs.Str.{bytes_eq}
 use Rattle.pytext.specs.Results.{◌>>=◌}
 use Rattle.pylock_exports.specs.Listed.{ListedValue}
 use Rattle.pylock_exports.specs.Lists.{IsKept, beside, is_left, key_of, keys, list_check, value_named, value_of, with_source, with_sources}
-use Rattle.pylock_exports.specs.Parts.{Check}
-use Rattle.pylock_exports.specs.Refusals.{at_number, other_value}
+use Rattle.pylock_exports.specs.Parts.{Check, at_number, require}
 use Rattle.pylock_command.specs.declared.form.FileFormat.{FileFormat}
 use Rattle.pylock_exports.specs.declared.refusal.ExportError.{ExportError}
+use Rattle.pylock_exports.specs.declared.refusal.Field.TheVariants as field
+use Rattle.pylock_exports.specs.declared.refusal.Reason.TheVariants as reason
 use Rattle.pylock_exports.proofs.KeptLemmas.{later, named_more}
 
 -- a source is left out, or is kept already, or comes to those that are kept
@@ -26,7 +27,7 @@ pub made_of : (form : FileFormat) (kept more : List ListedValue) (s : ListedValu
 made_of form kept more s = unlisted (is_left form s.source) refl
   where
     same_named : (value : List ℕ) (b : Bool) → value_named form (key_of form s.source) kept ≡ Some value → bytes_eq value (value_of form s.source) ≡ b
-        → cond b (Ok kept) (Err (other_value s.number)) ≡ Ok more → Made form kept s more
+        → (at_number s.number (require field.Hash reason.OtherValue b) >>= (λ _. Ok kept)) ≡ Ok more → Made form kept s more
     same_named value true is same made =
         let stays : more ≡ kept = cc made in
         inr (inl (is ∙ ap Some ((bytes_decides value (value_of form s.source)).0 same), stays))

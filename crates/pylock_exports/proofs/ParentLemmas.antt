@@ -1,5 +1,5 @@
 -- The parts of a path, taken one after the other, and whether a `..` stands behind another one.
-use Rattle.std.proofs.Common.{◌≡◌, ◌∙◌, ◌⊎◌, inl, inr, ℕ, Bool, true, false, not, ◌+◌, ◌&&◌, ◌||◌, List, [], ◌∷◌, Bor, Some, None, ap, arith, drop, refl, suc, sym}
+use Rattle.std.proofs.Common.{[], ◌≡◌, ◌∙◌, ◌⊎◌, inl, inr, ℕ, Bool, true, false, not, ◌+◌, ◌&&◌, List, ◌∷◌, Bor, Some, None, ap, arith, drop, refl, suc, sym}
 use Rattle.std.proofs.lemmas.Iterator.{YieldsList}
 use Rattle.std.specs.List.{list_any, prefix_len}
 use Rattle.std.specs.Str.Iter.{split_steps}

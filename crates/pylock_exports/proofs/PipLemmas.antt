@@ -1,6 +1,6 @@
 -- What is found in a line of a requirements file.
-use Rattle.std.proofs.Common.{◌≡◌, ◌∙◌, ◌⊎◌, inl, inr, ℕ, Bool, true, false, ◌==◌, ◌||◌, cond, codes, List, [], ◌∷◌, ◌++◌, Option, Some, None, Ok, refl, sym, ap, append_assoc, subst}
-use Rattle.std.proofs.lemmas.Bool.{eqb-true}
+use Rattle.std.proofs.Common.{◌≡◌, ◌∙◌, ◌⊎◌, inl, inr, ℕ, Bool, true, false, not, ◌==◌, ◌||◌, cond, codes, List, [], ◌∷◌, ◌++◌, Option, Some, None, Ok, refl, sym, ap, append_assoc, subst}
+use Rattle.std.proofs.lemmas.Bool.{and_parts, eqb-true, not-true}
 use Rattle.std.proofs.lemmas.List.Elements.{All-from_recursion, recursion_from_All}
 use Rattle.std.specs.Prelude.{⊤}
 use Rattle.std.specs.Cmp.Lexicographic.{bytes_decides}
@@ -9,13 +9,10 @@ use Rattle.std.specs.Str.{bytes_eq}
 use Rattle.pytext.specs.Bytes.{starts}
 use Rattle.pylock_readers.specs.Entry.FileName.{is_slash}
 use Rattle.pylock_exports.specs.Class.{allows}
-use Rattle.pylock_exports.specs.Line.{IsCheckoutUrl, IsCommit, IsDirectory, IsFileUrl, IsFragment, IsHashOption, IsHost, IsLine, IsName, IsOf, IsPathUrl, IsPlace, IsPlainPath, IsSub, IsSubdirectory, IsWebScheme, IsWebUrl, folder}
-use Rattle.pylock_exports.specs.Line.{option_sha256, option_sha384, option_sha512}
-use Rattle.pylock_exports.specs.Line.{sum_line, aria2_url, aria2_file, aria2_hash, aria2_torrent, aria2_metalink, aria2_renaming, url_line}
-use Rattle.pylock_exports.specs.Line.{header_line, place_line, path_line, local_header_line, checkout_line, directory_line}
+use Rattle.pylock_exports.specs.Line.{IsCheckoutUrl, IsCommit, IsDirectory, IsFragment, IsHashOption, IsHost, IsLine, IsName, IsOf, IsPlace, IsPlainPath, IsSub, IsSubdirectory, IsWebScheme, IsWebUrl, folder, option_sha256, option_sha384, option_sha512, sum_line, aria2_url, aria2_file, aria2_hash, aria2_torrent, aria2_metalink, aria2_renaming, url_line, header_line, place_line, path_line, local_header_line, checkout_line, directory_line}
 use Rattle.pylock_exports.specs.Listed.{ListedValue}
-use Rattle.pylock_exports.specs.Parts.{has_hex_commits, is_kind}
-use Rattle.pylock_exports.specs.Pip.{Finds, IsAuthority, IsPlainUrl, IsReference, Lacks, ReadsPlainly, ends_authority, sought}
+use Rattle.pylock_exports.specs.Parts.{is_kind}
+use Rattle.pylock_exports.specs.Pip.{Finds, IsAuthority, IsPlainUrl, Lacks, ReadsPlainly, ends_authority, sought}
 use Rattle.pylock_exports.specs.Requirements.{header, named, path_text}
 use Rattle.pylock_exports.specs.Texts.{format_lines}
 use Rattle.pylock_exports.specs.declared.class.Class.{Class}
@@ -125,28 +122,18 @@ not_found url keys x key other found =
     let last : last_or x key ≡ 121 = sym (last_behind 0 front x key) ∙ ap (last_or 0) own.1 ∙ last_behind 0 own.0 35 (codes "subdirectory") in
     cc (sym other ∙ ap (λ c. c == 121) last)
 
+-- a key that ends in another letter
+abbrev ends_otherwise : List ℕ → Bool
+ends_otherwise [] = false
+ends_otherwise (x ∷ key) = not (last_or x key == 121)
+
 none_found : (url : List ℕ) → ((front back : List ℕ) → url ≡ front ++ codes "=" ++ back → (own : List ℕ) × (front ≡ own ++ codes "#subdirectory"))
-    → All (λ key. Finds key url → ⊥) sought
-none_found url keys =
-    All-from_recursion (λ key. Finds key url → ⊥) sought (
-      not_found url keys 109 (codes "d5") refl,
-      (
-        not_found url keys 115 (codes "ha1") refl,
-        (
-          not_found url keys 115 (codes "ha224") refl,
-          (
-            not_found url keys 115 (codes "ha256") refl,
-            (
-              not_found url keys 115 (codes "ha384") refl,
-              (
-                not_found url keys 115 (codes "ha512") refl,
-                (not_found url keys 101 (codes "gg") refl, tt),
-              ),
-            ),
-          ),
-        ),
-      ),
-    )
+    → (keys : List (List ℕ)) → list_all ends_otherwise keys ≡ true → AllByRecursion (λ key. Finds key url → ⊥) keys
+none_found url found [] all = tt
+none_found url found ([] ∷ keys) all = cc all
+none_found url found ((x ∷ key) ∷ keys) all =
+    let (other, more) = and_parts (not (last_or x key == 121)) (list_all ends_otherwise keys) all in
+    (not_found url found x key (not-true (last_or x key == 121) other), none_found url found keys more)
 
 plain_url : (base rest : List ℕ) → IsBare base → IsFragment rest
     → ((scheme rest' : List ℕ) → Lacks 58 scheme → base ++ rest ≡ scheme ++ codes "://" ++ rest' → IsAuthority scheme rest') → IsPlainUrl (base ++ rest)
@@ -155,7 +142,7 @@ plain_url base rest bare is host =
       host = host;
       fragment = found_fragment base rest bare is;
       key = found_key base rest bare is;
-      none = none_found (base ++ rest) (found_key base rest bare is);
+      none = All-from_recursion (λ key. Finds key (base ++ rest) → ⊥) sought (none_found (base ++ rest) (found_key base rest bare is) sought refl);
       ampersand = lacks_ampersand base rest bare is;
     }
 

@@ -1,5 +1,5 @@
 -- Texts that are cut at a character.
-use Rattle.std.proofs.Common.{◌≡◌, ◌∙◌, ◌⊎◌, inl, inr, ℕ, Bool, true, false, not, cond, ◌==◌, ◌||◌, ◌&&◌, codes, List, [], ◌∷◌, ◌++◌, Option, Some, None, drop, length, take, option_map, refl, sym, ap, append_assoc, subst, ◌+◌, suc, arith}
+use Rattle.std.proofs.Common.{[], ◌≡◌, ◌∙◌, inl, inr, ℕ, Bool, true, false, cond, ◌==◌, ◌||◌, ◌&&◌, codes, List, ◌∷◌, ◌++◌, Option, Some, None, drop, length, take, option_map, refl, sym, ap, append_assoc, subst, ◌+◌, suc, arith}
 use Rattle.std.proofs.lemmas.Bool.{eq-eqb, eqb-true}
 use Rattle.std.specs.Prelude.{nat_eq, option_and_then}
 use Rattle.std.specs.List.{before_first, list_all, list_any, position_or_len, starts_with}

@@ -1,6 +1,6 @@
 -- What the names of files say: of which project they are, and what a tool takes them for.
-use Rattle.std.specs.Prelude.{ℕ, Bool, true, false, ◌||◌, ◌-◌, codes, List, [], ◌∷◌, length, drop}
-use Rattle.std.specs.Prelude.{Option, Some, None, option_map, not, ◌==◌, ◌&&◌, if◌then◌else◌}
+use Rattle.std.specs.Prelude.{[], ℕ, Bool, false, ◌||◌, ◌-◌, codes, List, ◌∷◌, length, drop, Option}
+use Rattle.std.specs.Prelude.{Some, None, option_map, not, ◌==◌, ◌&&◌, if◌then◌else◌}
 use Rattle.std.specs.Option.{option_map_or}
 use Rattle.std.specs.Result.{result_ok}
 use Rattle.std.specs.Str.{bytes_eq, str_eq_ignore_ascii_case}
@@ -35,10 +35,7 @@ project_check name (Some project) =
 
 -- ---- how they end
 
-abbrev pub ends : (ending text : List ℕ) → Bool
-ends ending text = bytes_eq (drop (length text - length ending) text) ending
-
--- the same, ASCII letter case ignored
+-- the text ends so, ASCII letter case ignored
 abbrev pub ends_in : (ending text : List ℕ) → Bool
 ends_in ending text =
     str_eq_ignore_ascii_case (drop (length text - length ending) text) ending
@@ -50,23 +47,14 @@ ends_as_wheel text = ends_in (codes ".whl") text
 abbrev pub is_wheel_end : Option (List ℕ) → Bool
 is_wheel_end last = option_map_or ends_as_wheel last false
 
-abbrev pub ends_as_tar : List ℕ → Bool
-ends_as_tar text =
-    ends_in (codes ".tar") text || ends_in (codes ".tar.gz") text || ends_in (codes ".tgz") text
-
-abbrev pub ends_as_bz2 : List ℕ → Bool
-ends_as_bz2 text = ends_in (codes ".tar.bz2") text || ends_in (codes ".tbz") text
-
-abbrev pub ends_as_xz : List ℕ → Bool
-ends_as_xz text =
-    ends_in (codes ".tar.xz") text || ends_in (codes ".txz") text || ends_in (codes ".tlz") text
-    || ends_in (codes ".tar.lz") text || ends_in (codes ".tar.lzma") text
-
 -- pip takes a path that ends so for the file that may stand there
 abbrev pub ends_as_file : List ℕ → Bool
 ends_as_file text =
-    ends_as_wheel text || ends_in (codes ".zip") text || ends_as_tar text || ends_as_bz2 text
-    || ends_as_xz text
+    ends_as_wheel text || ends_in (codes ".zip") text || ends_in (codes ".tar") text
+    || ends_in (codes ".tar.gz") text || ends_in (codes ".tgz") text
+    || ends_in (codes ".tar.bz2") text || ends_in (codes ".tbz") text
+    || ends_in (codes ".tar.xz") text || ends_in (codes ".txz") text || ends_in (codes ".tlz") text
+    || ends_in (codes ".tar.lz") text || ends_in (codes ".tar.lzma") text
 
 -- the part of a path names something: it is neither empty nor `.`
 abbrev pub is_step : List ℕ → Bool

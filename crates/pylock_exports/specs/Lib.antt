@@ -3,7 +3,6 @@ pub mod Line
 pub mod Listed
 pub mod Parts
 pub mod FileNames
-pub mod Refusals
 pub mod Lists
 pub mod Pip
 pub mod Requirements

@@ -1,18 +1,17 @@
 -- The forms that list files: what each file has to have, and the lines of a list.
-use Rattle.std.specs.Prelude.{◌≡◌, ℕ, Bool, false, not, ◌||◌, codes, ◌++◌, List, []}
-use Rattle.std.specs.Prelude.{◌∷◌, map, Option, Some, None, is_none, is_some, unwrap_or}
-use Rattle.std.specs.Prelude.{option_map, Result, Ok, Err, if◌then◌else◌}
-use Rattle.std.specs.List.{find, flat_map}
+use Rattle.std.specs.Prelude.{[], ◌≡◌, ℕ, Bool, false, not, ◌||◌, codes, ◌++◌, List, ◌∷◌, map}
+use Rattle.std.specs.Prelude.{Option, Some, None, is_none, unwrap_or, nat_eq, option_map, Result}
+use Rattle.std.specs.Prelude.{Ok, if◌then◌else◌}
+use Rattle.std.specs.List.{ends_with, find, flat_map}
 use Rattle.std.specs.Option.{option_map_or}
 use Rattle.std.specs.Str.{bytes_eq}
 use Rattle.pytext.specs.Results.{◌>>=◌}
 use Rattle.pylock_core.specs.Session.Picks.{SourceValue}
-use Rattle.pylock_exports.specs.FileNames.{ends, last_part}
+use Rattle.pylock_exports.specs.FileNames.{last_part}
 use Rattle.pylock_exports.specs.Listed.{ListedValue, file_name_of_source, path_alone, sha256_of}
 use Rattle.pylock_exports.specs.Listed.{url_of}
-use Rattle.pylock_exports.specs.Parts.{Check, end_check, file_name_check, hash_check, path_check}
-use Rattle.pylock_exports.specs.Parts.{require, there, web_url_check}
-use Rattle.pylock_exports.specs.Refusals.{at_number, other_value}
+use Rattle.pylock_exports.specs.Parts.{Check, at_number, end_check, file_name_check, hash_check}
+use Rattle.pylock_exports.specs.Parts.{path_check, require, there, web_url_check}
 use Rattle.pylock_exports.specs.Requirements.{path_text}
 use Rattle.pylock_exports.specs.declared.class.Class.TheVariants as class
 use Rattle.pylock_command.specs.declared.form.FileFormat.{FileFormat}
@@ -44,15 +43,15 @@ value_of format source = unwrap_or (value_in format source) []
 
 -- ---- what a list can hold
 
--- a name, or what it is one for, is absent, or a URL that it is fetched from
-abbrev pub lacks : FileFormat → SourceValue → Option (List ℕ) → Bool
-lacks Sha256sum source name = is_none name || is_none (sha256_of source)
-lacks Aria2 source name = is_none name || is_none (sha256_of source) || is_none (url_of source)
-lacks Urls source name = is_none name
+-- what a list has beside the name is absent: what it is one for, or a URL that it is fetched from
+abbrev pub lacks : FileFormat → SourceValue → Bool
+lacks Sha256sum source = is_none (sha256_of source)
+lacks Aria2 source = is_none (sha256_of source) || is_none (url_of source)
+lacks Urls source = false
 
--- a list leaves out what lacks one of these
+-- a list leaves out what has no name, or lacks one of these
 abbrev pub is_left : FileFormat → SourceValue → Bool
-is_left format source = lacks format source (name_in format source)
+is_left format source = is_none (name_in format source) || lacks format source
 
 -- ---- what a file has to have
 
@@ -70,7 +69,7 @@ sum_name_check None name = file_name_check field.FileName name
 -- a file beside which `aria2c` keeps what it knows of a download
 abbrev pub is_control_file : List ℕ → Bool
 is_control_file name =
-    ends (codes ".aria2") name || ends (codes ".aria2__temp") name
+    ends_with nat_eq name (codes ".aria2") || ends_with nat_eq name (codes ".aria2__temp")
 
 abbrev pub aria2_name_check : List ℕ → Check
 aria2_name_check name =
@@ -107,8 +106,9 @@ abbrev pub beside : FileFormat → List ListedValue → ListedValue → Option (
     → Result (List ListedValue) ExportError
 beside format kept s None = Ok (kept ++ s ∷ [])
 beside format kept s (Some value) =
-    if bytes_eq value (value_of format s.source) then Ok kept
-    else Err (other_value s.number)
+    at_number s.number
+    (require field.Hash reason.OtherValue (bytes_eq value (value_of format s.source)))
+    >>= (λ _. Ok kept)
 
 -- those so far with one more source: what lacks something is left out, and what is named as an
 -- earlier one is has to have its value

@@ -1,7 +1,7 @@
 -- What each part of a line has to be. A text is the list of the bytes of its UTF-8.
-use Rattle.std.specs.Prelude.{ℕ, Bool, true, false, ◌==◌, ◌||◌, ◌&&◌, not, codes, nat_eq, List, []}
-use Rattle.std.specs.Prelude.{◌∷◌, length, drop, Option, Some, None, is_some, option_map}
-use Rattle.std.specs.Prelude.{option_and_then, unwrap_or, Result, Ok, Err, ⊤, if◌then◌else◌}
+use Rattle.std.specs.Prelude.{[], ℕ, Bool, false, ◌==◌, ◌||◌, ◌&&◌, not, codes, nat_eq, List, ◌∷◌}
+use Rattle.std.specs.Prelude.{length, drop, Option, Some, None, is_some, option_and_then, unwrap_or}
+use Rattle.std.specs.Prelude.{Result, Ok, Err, ⊤, if◌then◌else◌}
 use Rattle.std.specs.Char.{is_ascii_alphanumeric}
 use Rattle.std.specs.List.{find, list_all, list_any, prefix_len, slice_split, starts_with}
 use Rattle.std.specs.Option.{option_map_or}
@@ -15,6 +15,8 @@ use Rattle.pylock_readers.specs.Entry.FileName.{is_slash}
 use Rattle.pylock_exports.specs.Class.{allows}
 use Rattle.pylock_exports.specs.declared.class.Class.{Class}
 use Rattle.pylock_exports.specs.declared.class.Class.TheVariants as class
+use Rattle.pylock_exports.specs.declared.refusal.ExportError.{ExportError}
+use Rattle.pylock_exports.specs.declared.refusal.ExportError.TheVariants.{Refused}
 use Rattle.pylock_exports.specs.declared.refusal.Field.{Field}
 use Rattle.pylock_exports.specs.declared.refusal.Field.TheVariants as field
 use Rattle.pylock_exports.specs.declared.refusal.FieldFault.{FieldFault}
@@ -52,6 +54,11 @@ there field check (Some text) = check text
 abbrev pub where_there : (List ℕ → Check) → Option (List ℕ) → Check
 where_there check None = Ok tt
 where_there check (Some text) = check text
+
+-- what is found of a source, under the number of its entry
+abbrev pub at_number : ℕ → Check → Result ⊤ ExportError
+at_number number (Ok u) = Ok u
+at_number number (Err fault) = Err (Refused (record { number = number; fault = fault }))
 
 -- ---- names
 

@@ -1,48 +1,40 @@
 -- The two requirements files of a plan, as pip and uv read them (PEP 508, "direct references"; pip,
 -- "Requirements File Format"): what has hashes, and checkouts and directories. They are to be given
 -- with `--no-deps`, and their paths are meant from the lock's folder.
-use Rattle.std.specs.Prelude.{ℕ, Bool, true, false, ◌&&◌, ◌||◌, ◌++◌, not, codes, List, [], ◌∷◌}
-use Rattle.std.specs.Prelude.{Option, Some, None, is_none, is_some, unwrap_or, option_and_then}
-use Rattle.std.specs.Prelude.{Result, Ok, Err, ⊤, filter, if◌then◌else◌}
+use Rattle.std.specs.Prelude.{[], ℕ, Bool, false, ◌&&◌, ◌||◌, ◌++◌, not, codes, List, ◌∷◌, Option}
+use Rattle.std.specs.Prelude.{Some, None, is_none, is_some, option_and_then, option_map, Result, Ok}
+use Rattle.std.specs.Prelude.{Err, ⊤, filter, map, nat_eq, unwrap_or, if◌then◌else◌}
+use Rattle.std.specs.List.{ends_with}
 use Rattle.std.specs.Option.{option_map_or}
 use Rattle.std.specs.Str.{bytes_eq}
 use Rattle.pytext.specs.Bytes.{starts}
+use Rattle.pytext.specs.Options.{either}
 use Rattle.pytext.specs.Results.{◌>>=◌}
 use Rattle.pylock_readers.specs.Entry.{DirectoryValue, VcsValue}
 use Rattle.pylock_readers.specs.Entry.FileName.{is_slash}
 use Rattle.pylock_core.specs.Session.Picks.{SourceValue, OfVcs, OfDirectory, OfSdist, is_unhashed}
 use Rattle.pylock_core.specs.Session.Picks.{source_file, source_file_name, source_hashes}
 use Rattle.pylock_core.specs.Session.Picks.{source_location, source_subdirectory}
-use Rattle.pylock_exports.specs.FileNames.{ends, ends_as_file, is_wheel_end, last_step}
+use Rattle.pylock_exports.specs.FileNames.{ends_as_file, is_wheel_end, last_step}
 use Rattle.pylock_exports.specs.FileNames.{project_check, sdist_project, wheel_project}
 use Rattle.pylock_exports.specs.Listed.{ListedValue, hash_of, last_of}
-use Rattle.pylock_exports.specs.Parts.{Check, any_url_check, checkout_url_check, commit_check}
-use Rattle.pylock_exports.specs.Parts.{directory_path_check, end_check, hash_check}
+use Rattle.pylock_exports.specs.Parts.{Check, any_url_check, at_number, checkout_url_check}
+use Rattle.pylock_exports.specs.Parts.{commit_check, directory_path_check, end_check, hash_check}
 use Rattle.pylock_exports.specs.Parts.{kind_check, missing, name_check, path_check, require}
 use Rattle.pylock_exports.specs.Parts.{subdirectory_check, there, where_there}
-use Rattle.pylock_exports.specs.Refusals.{at_number}
 use Rattle.pylock_exports.specs.declared.requirements.PlanPart.{PlanPart}
 use Rattle.pylock_exports.specs.declared.requirements.PlanPart.TheVariants as part
-use Rattle.pylock_exports.specs.declared.refusal.Field.{Field}
 use Rattle.pylock_exports.specs.declared.refusal.Field.TheVariants as field
 use Rattle.pylock_exports.specs.declared.refusal.ExportError.{ExportError}
 use Rattle.pylock_exports.specs.declared.refusal.Reason.TheVariants as reason
 
 -- ---- where a file lies
 
--- the URL, else the path
-abbrev pub location_check : (url path : Option (List ℕ)) → Check
-location_check (Some url) path = any_url_check url
-location_check None path = there field.Path path_check path
-
-abbrev pub end_field : (url : Option (List ℕ)) → Field
-end_field (Some url) = field.UrlEnd
-end_field None = field.PathEnd
-
 -- the URL, else the path, which ends in this file name
 abbrev pub place_check : (url path last : Option (List ℕ)) → Check
-place_check url path last =
-    location_check url path >>= (λ _. end_check (end_field url) last)
+place_check (Some url) path last = any_url_check url >>= (λ _. end_check field.UrlEnd last)
+place_check None path last =
+    there field.Path path_check path >>= (λ _. end_check field.PathEnd last)
 
 -- it is written as a path: it has no URL, and the path doesn't begin with `/`
 abbrev pub is_relative : (url path : Option (List ℕ)) → Bool
@@ -50,17 +42,20 @@ is_relative url path = is_none url && not (starts is_slash (unwrap_or path []))
 
 -- ---- its hash
 
+-- a hash of this algorithm, with the digits of that
+abbrev pub hash_with : List ℕ → ℕ → List (List ℕ × List ℕ) → Option (List ℕ × ℕ × List ℕ)
+hash_with algorithm digits hashes =
+    option_map (λ value. (algorithm, digits, value)) (hash_of algorithm hashes)
+
 -- pip takes a file that has one of several hashes, so one is written: the first that is there
-abbrev pub best_hash_check : (sha256 sha384 sha512 : Option (List ℕ)) → Check
-best_hash_check (Some value) sha384 sha512 = hash_check 64 value
-best_hash_check None (Some value) sha512 = hash_check 96 value
-best_hash_check None None (Some value) = hash_check 128 value
-best_hash_check None None None = Err (missing field.Hash)
+abbrev pub best_hash : List (List ℕ × List ℕ) → Option (List ℕ × ℕ × List ℕ)
+best_hash hashes =
+    either (hash_with (codes "sha256") 64 hashes)
+    (either (hash_with (codes "sha384") 96 hashes) (hash_with (codes "sha512") 128 hashes))
 
 abbrev pub hashes_check : List (List ℕ × List ℕ) → Check
 hashes_check hashes =
-    best_hash_check (hash_of (codes "sha256") hashes) (hash_of (codes "sha384") hashes)
-    (hash_of (codes "sha512") hashes)
+    option_map_or (λ hash. hash_check hash.1 hash.2) (best_hash hashes) (Err (missing field.Hash))
 
 -- ---- what has hashes
 
@@ -109,7 +104,7 @@ directory_end directory =
 
 -- a subdirectory stands behind a `/`; a second one beside it, at the root, is a share of Windows
 abbrev pub joins_once : (path : List ℕ) → (sub : Option (List ℕ)) → Bool
-joins_once path sub = is_none sub || not (ends (codes "/") path)
+joins_once path sub = is_none sub || not (ends_with nat_eq path (codes "/"))
 
 -- pip may take a directory for a file, unless it is editable
 abbrev pub directory_check : DirectoryValue → Check
@@ -154,19 +149,11 @@ abbrev pub fragment : Option (List ℕ) → List ℕ
 fragment subdirectory =
     option_map_or (λ path. codes "#subdirectory=" ++ path) subdirectory []
 
-abbrev pub hash_option : (algorithm value : List ℕ) → List ℕ
-hash_option algorithm value = codes " --hash=" ++ algorithm ++ codes ":" ++ value
-
-abbrev pub best_hash_option : (sha256 sha384 sha512 : Option (List ℕ)) → List ℕ
-best_hash_option (Some value) sha384 sha512 = hash_option (codes "sha256") value
-best_hash_option None (Some value) sha512 = hash_option (codes "sha384") value
-best_hash_option None None (Some value) = hash_option (codes "sha512") value
-best_hash_option None None None = []
+abbrev pub hash_option : List ℕ × ℕ × List ℕ → List ℕ
+hash_option hash = codes " --hash=" ++ hash.0 ++ codes ":" ++ hash.2
 
 abbrev pub hashes_option : List (List ℕ × List ℕ) → List ℕ
-hashes_option hashes =
-    best_hash_option (hash_of (codes "sha256") hashes) (hash_of (codes "sha384") hashes)
-    (hash_of (codes "sha512") hashes)
+hashes_option hashes = option_map_or hash_option (best_hash hashes) []
 
 -- the URL, else the path as a URL
 abbrev pub location_url : (url path : Option (List ℕ)) → List ℕ
@@ -218,16 +205,16 @@ is_in part.Local source = is_unhashed source
 abbrev pub part_of : PlanPart → List ListedValue → List ListedValue
 part_of part sources = filter (λ s. is_in part s.source) sources
 
--- a line for each source
-abbrev pub source_requirements : List ListedValue → Result (List (List ℕ)) ExportError
-source_requirements [] = Ok []
-source_requirements (s ∷ rest) =
-    requirement_check s
-    >>= (λ _. source_requirements rest >>= (λ lines. Ok (requirement_line s ∷ lines)))
+-- the first refusal of these sources
+abbrev pub requirements_check : List ListedValue → Result ⊤ ExportError
+requirements_check [] = Ok tt
+requirements_check (s ∷ rest) = requirement_check s >>= (λ _. requirements_check rest)
 
+-- a line for each source of the file
 abbrev pub requirements_lines : PlanPart → List ListedValue → Result (List (List ℕ)) ExportError
 requirements_lines part sources =
-    source_requirements (part_of part sources) >>= (λ lines. Ok (header ∷ lines))
+    requirements_check (part_of part sources)
+    >>= (λ _. Ok (header ∷ map requirement_line (part_of part sources)))
 
 -- a list is dealt out into two, each in its order
 pub data Deals {A : Type 0} : (all one other : List A) → Type 0 where

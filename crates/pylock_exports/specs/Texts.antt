@@ -9,7 +9,6 @@ use Rattle.pylock_exports.specs.Lists.{is_left, list_lines}
 use Rattle.pylock_exports.specs.Requirements.{is_in, requirements_lines}
 use Rattle.pylock_command.specs.declared.form.PlanFormat.{PlanFormat}
 use Rattle.pylock_command.specs.declared.form.PlanFormat.TheVariants as format
-use Rattle.pylock_command.specs.declared.form.FileFormat.TheVariants.{Sha256sum, Aria2, Urls}
 use Rattle.pylock_exports.specs.declared.requirements.PlanPart.{PlanPart}
 use Rattle.pylock_exports.specs.declared.requirements.PlanPart.TheVariants.{Hashed, Local}
 use Rattle.pylock_exports.specs.declared.left.LeftSource.{LeftSource}
@@ -29,23 +28,6 @@ format_lines (format.Files form) sources = list_lines form sources
 
 abbrev pub format_text : PlanFormat → List ListedValue → Result (List ℕ) ExportError
 format_text form sources = format_lines form sources >>= (λ lines. Ok (lines_text lines))
-
--- ---- the five forms
-
-abbrev pub requirements_text : List ListedValue → Result (List ℕ) ExportError
-requirements_text sources = format_text format.Requirements sources
-
-abbrev pub requirements_local_text : List ListedValue → Result (List ℕ) ExportError
-requirements_local_text sources = format_text format.RequirementsLocal sources
-
-abbrev pub sha256sum_text : List ListedValue → Result (List ℕ) ExportError
-sha256sum_text sources = format_text (format.Files Sha256sum) sources
-
-abbrev pub aria2_text : List ListedValue → Result (List ℕ) ExportError
-aria2_text sources = format_text (format.Files Aria2) sources
-
-abbrev pub urls_text : List ListedValue → Result (List ℕ) ExportError
-urls_text sources = format_text (format.Files Urls) sources
 
 -- ---- what is told beside the text
 

@@ -2,13 +2,13 @@
 
 ghost use Rattle.std.specs.Prelude.{◌≡◌, IfOk, map, string_bytes};
 ghost use Rattle.pytext.specs.Agreement.{Gives};
-ghost use Rattle.pylock_exports.specs.Inner.Lent.{all_lent};
+ghost use Rattle.pylock_exports.specs.Inner.{all_lent};
 ghost use Rattle.pylock_exports.specs.Listed.{plan_sources, sources_from};
 ghost use Rattle.pylock_exports.specs.Texts.{first_left, format_text, left_out, shown_left};
 ghost use Rattle.pylock_command.specs.declared.form.PlanFormat.TheVariants as format;
 ghost use Rattle.pylock_exports.specs.declared.refusal.ExportError.TheVariants as export;
 
-use crate::left::{LeftSource, first_left, left_count};
+use crate::left::{LeftSource, left_of};
 use crate::listed::{Listed, entry_sources, plan_sources};
 use crate::lists::list_text;
 use crate::refusal::ExportError;
@@ -58,10 +58,12 @@ fn export(alloc: Global, form: PlanFormat, list: &[Listed<'_>]) -> Result<Export
     ensures first { IfOk result (λ e. map shown_left e.first_left.items
         ≡ first_left form (all_lent list.now)) }
 {
+    let text = text_of(alloc, form, list)?;
+    let (left_out, first_left) = left_of(alloc, form, list)?;
     Ok(Exported {
-        text: text_of(alloc, form, list)?,
-        left_out: left_count(alloc, form, list)?,
-        first_left: first_left(alloc, form, list)?,
+        text,
+        left_out,
+        first_left,
     })
 }
 

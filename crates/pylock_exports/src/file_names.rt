@@ -2,12 +2,11 @@
 
 ghost use Rattle.std.specs.Prelude.{◌≡◌, None, option_map, IfOk, string_bytes};
 ghost use Rattle.std.specs.Option.{option_copied};
-ghost use Rattle.pylock_exports.specs.FileNames.{ends, ends_as_bz2, ends_as_file, ends_as_tar};
-ghost use Rattle.pylock_exports.specs.FileNames.{ends_as_wheel, ends_as_xz, ends_in, is_step};
-ghost use Rattle.pylock_exports.specs.FileNames.{is_wheel_end, last_part, last_step};
-ghost use Rattle.pylock_exports.specs.FileNames.{project_check};
-ghost use Rattle.pylock_exports.specs.FileNames.{sdist_project, wheel_project};
+ghost use Rattle.pylock_exports.specs.FileNames.{ends_as_file, ends_as_wheel, ends_in};
+ghost use Rattle.pylock_exports.specs.FileNames.{is_step, is_wheel_end, last_part, last_step};
+ghost use Rattle.pylock_exports.specs.FileNames.{project_check, sdist_project, wheel_project};
 
+use crate::listed::owned;
 use crate::parts::require;
 use crate::refusal::{Field, FieldFault, Reason};
 use pylock_readers::{path_file_name, url_file_name};
@@ -24,12 +23,9 @@ pub(crate) fn last_part(
     ensures { IfOk result (λ last. option_map string_bytes last
         ≡ last_part (option_copied url.entry) (option_copied path.entry)) }
 {
-    if let Some(url) = url {
-        return url_file_name(alloc, url);
-    }
-    match last_of_path(path) {
-        Some(last) => Ok(Some(String::from_str(alloc, last)?)),
-        None => Ok(None),
+    match url {
+        Some(url) => url_file_name(alloc, url),
+        None => owned(alloc, last_of_path(path)),
     }
 }
 
@@ -76,14 +72,7 @@ pub(crate) fn check_project(name: &str, project: Option<&str>) -> Result<(), Fie
 
 // ---- how they end
 
-/// Whether the text ends so.
-pub(crate) fn ends(ending: &[u8], text: &[u8]) -> bool
-    ensures { result ≡ ends ending.now text.now }
-{
-    text.ends_with(ending)
-}
-
-/// The same, ASCII letter case ignored.
+/// Whether the text ends so, ASCII letter case ignored.
 fn ends_in(ending: &[u8], text: &[u8]) -> bool
     ensures { result ≡ ends_in ending.now text.now }
 {
@@ -108,37 +97,22 @@ pub(crate) fn is_wheel_end(last: Option<&str>) -> bool
     }
 }
 
-fn ends_as_tar(text: &[u8]) -> bool
-    ensures { result ≡ ends_as_tar text.now }
-{
-    ends_in(b".tar", text) || ends_in(b".tar.gz", text) || ends_in(b".tgz", text)
-}
-
-fn ends_as_bz2(text: &[u8]) -> bool
-    ensures { result ≡ ends_as_bz2 text.now }
-{
-    ends_in(b".tar.bz2", text) || ends_in(b".tbz", text)
-}
-
-fn ends_as_xz(text: &[u8]) -> bool
-    ensures { result ≡ ends_as_xz text.now }
-{
-    ends_in(b".tar.xz", text)
-        || ends_in(b".txz", text)
-        || ends_in(b".tlz", text)
-        || ends_in(b".tar.lz", text)
-        || ends_in(b".tar.lzma", text)
-}
-
 /// Whether pip takes a path that ends so for the file that may stand there.
 pub(crate) fn ends_as_file(text: &[u8]) -> bool
     ensures { result ≡ ends_as_file text.now }
 {
     ends_as_wheel(text)
         || ends_in(b".zip", text)
-        || ends_as_tar(text)
-        || ends_as_bz2(text)
-        || ends_as_xz(text)
+        || ends_in(b".tar", text)
+        || ends_in(b".tar.gz", text)
+        || ends_in(b".tgz", text)
+        || ends_in(b".tar.bz2", text)
+        || ends_in(b".tbz", text)
+        || ends_in(b".tar.xz", text)
+        || ends_in(b".txz", text)
+        || ends_in(b".tlz", text)
+        || ends_in(b".tar.lz", text)
+        || ends_in(b".tar.lzma", text)
 }
 
 /// Whether a part of a path names something.

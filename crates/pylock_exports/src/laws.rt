@@ -1,6 +1,6 @@
 //! Laws of the definitions alone: each function's contract is a law, and its body is empty.
 
-ghost use Rattle.std.specs.Prelude.{◌≡◌, ◌∷◌, [], ℕ, List, Ok, Err, Some, map, ⊤};
+ghost use Rattle.std.specs.Prelude.{[], ◌≡◌, ◌∷◌, ℕ, List, Ok, Err, map};
 ghost use Rattle.std.specs.List.{All, Contains, IsDistinct};
 ghost use Rattle.std.specs.Str.{bytes_eq};
 ghost use Rattle.pylock_exports.specs.Line.{IsLine};

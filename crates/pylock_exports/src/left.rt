@@ -1,9 +1,8 @@
 //! What a form has no line of.
 
-ghost use Rattle.std.specs.Prelude.{◌≡◌, ◌++◌, ◌-◌, [], ◌∷◌, IfOk, OnOk, length, map, take};
-ghost use Rattle.std.specs.Prelude.{if◌then◌else◌};
+ghost use Rattle.std.specs.Prelude.{[], ◌≡◌, ◌++◌, ◌-◌, ◌∷◌, IfOk, OnOk, length, map, take};
 ghost use Rattle.pylock_core.specs.Session.Picks.{lent_source};
-ghost use Rattle.pylock_exports.specs.Inner.Lent.{all_lent, lent};
+ghost use Rattle.pylock_exports.specs.Inner.{all_lent, lent};
 ghost use Rattle.pylock_exports.specs.Texts.{entry_of, first_left, is_left_out, left_out};
 ghost use Rattle.pylock_exports.specs.Texts.{shown_left};
 
@@ -46,58 +45,29 @@ fn is_left_out(
     }
 }
 
-/// How many sources the form has no line of.
-pub(crate) fn left_count(
+/// How many of the sources the form has no line of, and the first of these.
+pub(crate) fn left_of(
     alloc: Global,
     form: PlanFormat,
     list: &[Listed<'_>],
-) -> Result<usize, AllocError>
-    ensures { IfOk result (λ count. count ≡ left_out form (all_lent list.now)) }
+) -> Result<(usize, Vec<LeftSource>), AllocError>
+    ensures count { IfOk result (λ left. left.0 ≡ left_out form (all_lent list.now)) }
+    ensures first { IfOk result (λ left. map shown_left left.1.items
+        ≡ first_left form (all_lent list.now)) }
 {
     let mut count = 0;
+    let mut first = Vec::new(alloc);
     for listed in list {
         if is_left_out(alloc, form, listed.source)? {
+            push_left(alloc, &mut first, listed)?;
             count += 1;
         }
     }
-    Ok(count)
-}
-
-/// The first of the sources that the form has no line of.
-pub(crate) fn first_left(
-    alloc: Global,
-    form: PlanFormat,
-    list: &[Listed<'_>],
-) -> Result<Vec<LeftSource>, AllocError>
-    ensures { IfOk result (λ first. map shown_left first.items
-        ≡ first_left form (all_lent list.now)) }
-{
-    let mut first = Vec::new(alloc);
-    for listed in list {
-        push_where_left(alloc, form, &mut first, listed)?;
-    }
-    Ok(first)
-}
-
-/// Adds a source that the form has no line of, where fewer are there than are named.
-fn push_where_left(
-    alloc: Global,
-    form: PlanFormat,
-    first: &mut Vec<LeftSource>,
-    listed: &Listed<'_>,
-) -> Result<(), AllocError>
-    ensures { OnOk result (map shown_left first.new.items ≡ map shown_left first.old.items
-        ++ (if is_left_out form (lent listed.now).source
-        then take (5 - length first.old.items) (entry_of (lent listed.now) ∷ []) else [])) }
-{
-    if is_left_out(alloc, form, listed.source)? {
-        push_named(alloc, first, listed)?;
-    }
-    Ok(())
+    Ok((count, first))
 }
 
 /// Adds a source, where fewer are there than are named.
-fn push_named(
+fn push_left(
     alloc: Global,
     first: &mut Vec<LeftSource>,
     listed: &Listed<'_>,

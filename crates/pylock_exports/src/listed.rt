@@ -3,7 +3,7 @@
 ghost use Rattle.std.specs.Prelude.{◌≡◌, ◌++◌, IfOk, OnOk, map, option_map, string_bytes};
 ghost use Rattle.std.specs.Option.{option_copied};
 ghost use Rattle.pylock_core.specs.Session.Picks.{lent_named, lent_source, sources};
-ghost use Rattle.pylock_exports.specs.Inner.Lent.{all_lent, lent};
+ghost use Rattle.pylock_exports.specs.Inner.{all_lent};
 ghost use Rattle.pylock_exports.specs.Listed.{file_name_of_source, last_of, listed, path_alone};
 ghost use Rattle.pylock_exports.specs.Listed.{path_of, picked_source, plan_sources, sources_from};
 ghost use Rattle.pylock_exports.specs.Listed.{url_of};

@@ -1,38 +1,32 @@
 //! The forms that list files.
 
 ghost use Rattle.std.specs.Prelude.{◌≡◌, ◌++◌, ◌∷◌, [], IfOk, OnOk, option_map, string_bytes};
-ghost use Rattle.std.specs.Prelude.{false, unwrap_or};
+ghost use Rattle.std.specs.Prelude.{false};
 ghost use Rattle.std.specs.BTreeMap.{get_by_text};
 ghost use Rattle.std.specs.List.{flat_map};
 ghost use Rattle.std.specs.Option.{option_copied};
 ghost use Rattle.pytext.specs.Agreement.{Gives};
 ghost use Rattle.pylock_core.specs.Session.Picks.{lent_source};
-ghost use Rattle.pylock_exports.specs.FileNames.{last_part};
-ghost use Rattle.pylock_exports.specs.Inner.Kept.{Holds};
-ghost use Rattle.pylock_exports.specs.Inner.Lent.{all_lent, lent};
-ghost use Rattle.pylock_exports.specs.Listed.{url_of};
+ghost use Rattle.pylock_exports.specs.Inner.{all_lent, Holds, lent};
 ghost use Rattle.pylock_exports.specs.Lists.{aria2_name_check, fetched_check, is_control_file};
 ghost use Rattle.pylock_exports.specs.Lists.{is_left, key_of, lacks, lines_named, list_check};
 ghost use Rattle.pylock_exports.specs.Lists.{listed_check, name_in, own_sum_check, source_lines};
 ghost use Rattle.pylock_exports.specs.Lists.{sum_name, sum_name_check, value_of, with_source};
 ghost use Rattle.pylock_exports.specs.Lists.{with_sources};
-ghost use Rattle.pylock_exports.specs.Parts.{there, web_url_check};
-ghost use Rattle.pylock_exports.specs.Refusals.{at_number};
+ghost use Rattle.pylock_exports.specs.Parts.{at_number};
 ghost use Rattle.pylock_exports.specs.Texts.{format_text, lines_text};
-ghost use Rattle.pylock_exports.specs.declared.class.Class.TheVariants as class;
 ghost use Rattle.pylock_command.specs.declared.form.PlanFormat.TheVariants as format;
 ghost use Rattle.pylock_command.specs.declared.form.FileFormat.TheVariants.{Aria2, Sha256sum};
 ghost use Rattle.pylock_exports.specs.declared.refusal.ExportError.TheVariants as export;
-ghost use Rattle.pylock_exports.specs.declared.refusal.Field.TheVariants as field;
 
 use crate::class::Class;
-use crate::file_names::{ends, last_part};
+use crate::file_names::last_part;
 use crate::hashes::sha256_of;
 use crate::listed::{Listed, file_name_of, owned, path_alone, url_of};
 use crate::parts::{
     check_end, check_file_name, check_hash, check_path, check_web_url, missing, require,
 };
-use crate::refusal::{ExportError, Field, FieldFault, Reason, at_number, other_value};
+use crate::refusal::{ExportError, Field, FieldFault, Reason, at_number};
 use crate::requirements::push_path;
 use pylock_command::FileFormat;
 use pylock_core::PickedSource;
@@ -52,20 +46,12 @@ pub(crate) fn name_in(
         ≡ name_in format (lent_source source.entry)) }
 {
     match format {
-        FileFormat::Sha256sum => sum_name(alloc, source),
+        FileFormat::Sha256sum => match path_alone(source) {
+            Some(path) => owned(alloc, Some(path)),
+            None => file_name_of(alloc, source),
+        },
         FileFormat::Aria2 => file_name_of(alloc, source),
         FileFormat::Urls => owned(alloc, url_of(source)),
-    }
-}
-
-/// The path of a file that has no URL, else its file name.
-fn sum_name(alloc: Global, source: PickedSource<'_>) -> Result<Option<String>, AllocError>
-    ensures { IfOk result (λ name. option_map string_bytes name
-        ≡ name_in Sha256sum (lent_source source.entry)) }
-{
-    match path_alone(source) {
-        Some(path) => Ok(Some(String::from_str(alloc, path)?)),
-        None => file_name_of(alloc, source),
     }
 }
 
@@ -80,17 +66,15 @@ fn value_of(format: FileFormat, source: PickedSource<'_>) -> &str
     value.unwrap_or("")
 }
 
-/// Whether a list leaves out a source of this name: the name is absent, or the SHA-256, or the URL
-/// that it is fetched from.
-fn lacks(format: FileFormat, source: PickedSource<'_>, name: Option<&str>) -> bool
-    ensures { result ≡ lacks format (lent_source source.entry) (option_copied name.entry) }
+/// Whether a source lacks what a list has beside its name: the SHA-256, or the URL that it is
+/// fetched from.
+fn lacks(format: FileFormat, source: PickedSource<'_>) -> bool
+    ensures { result ≡ lacks format (lent_source source.entry) }
 {
     match format {
-        FileFormat::Sha256sum => name.is_none() || sha256_of(source).is_none(),
-        FileFormat::Aria2 => {
-            name.is_none() || sha256_of(source).is_none() || url_of(source).is_none()
-        }
-        FileFormat::Urls => name.is_none(),
+        FileFormat::Sha256sum => sha256_of(source).is_none(),
+        FileFormat::Aria2 => sha256_of(source).is_none() || url_of(source).is_none(),
+        FileFormat::Urls => false,
     }
 }
 
@@ -102,27 +86,22 @@ pub(crate) fn is_left(
 ) -> Result<bool, AllocError>
     ensures { IfOk result (λ left. left ≡ is_left format (lent_source source.entry)) }
 {
-    let name = name_in(alloc, format, source)?;
-    Ok(lacks(format, source, name.as_deref()))
+    match name_in(alloc, format, source)? {
+        Some(_) => Ok(lacks(format, source)),
+        None => Ok(true),
+    }
 }
 
 // ---- what a file has to have
-
-/// The URL that a source is fetched from.
-fn check_own_url(url: Option<&str>) -> Result<(), FieldFault>
-    ensures { result ≡ there field.Url (web_url_check class.Url) (option_copied url.entry) }
-{
-    match url {
-        Some(url) => check_web_url(Class::Url, url),
-        None => Err(missing(Field::Url)),
-    }
-}
 
 /// A URL that is fetched, which ends in this file name.
 fn check_fetched(url: Option<&str>, last: Option<&str>) -> Result<(), FieldFault>
     ensures { result ≡ fetched_check (option_copied url.entry) (option_copied last.entry) }
 {
-    check_own_url(url)?;
+    let Some(url) = url else {
+        return Err(missing(Field::Url));
+    };
+    check_web_url(Class::Url, url)?;
     check_end(Field::UrlEnd, last)
 }
 
@@ -140,7 +119,8 @@ fn check_sum_name(path: Option<&str>, name: &str) -> Result<(), FieldFault>
 fn is_control_file(name: &str) -> bool
     ensures { result ≡ is_control_file name.now }
 {
-    ends(b".aria2", name.as_bytes()) || ends(b".aria2__temp", name.as_bytes())
+    let name = name.as_bytes();
+    name.ends_with(b".aria2") || name.ends_with(b".aria2__temp")
 }
 
 fn check_aria2_name(name: &str) -> Result<(), FieldFault>
@@ -236,22 +216,13 @@ fn keep<'a>(
     ensures holds { OnOk result (Holds format (get_by_text values.new)
         (all_lent kept.new.items)) }
 {
-    let name = name_in(alloc, format, listed.source)?;
-    if lacks(format, listed.source, name.as_deref()) {
+    let Some(key) = name_in(alloc, format, listed.source)? else {
+        return Ok(());
+    };
+    if lacks(format, listed.source) {
         return Ok(());
     }
-    let key = text_or_empty(alloc, name);
     keep_named(alloc, format, kept, values, listed, key)
-}
-
-/// The text, or none where it isn't there.
-fn text_or_empty(alloc: Global, text: Option<String>) -> String
-    ensures { string_bytes result ≡ unwrap_or (option_map string_bytes text) [] }
-{
-    match text {
-        Some(text) => text,
-        None => String::new(alloc),
-    }
 }
 
 /// Adds a source that has this name, unless it stands there.
@@ -278,8 +249,10 @@ fn keep_named<'a>(
             values.insert(key, value)?;
             Ok(kept.push(*listed)?)
         }
-        Some(known) if *known == value => Ok(()),
-        Some(_) => Err(other_value(listed.number)),
+        Some(known) => at_number(
+            listed.number,
+            require(Field::Hash, Reason::OtherValue, *known == value),
+        ),
     }
 }
 

@@ -1,15 +1,13 @@
 -- The laws of the editing byte by byte, and what it says of the lines.
-use Rattle.std.proofs.Common.{◌≡◌, ℕ, ◌+◌, ◌≤◌, ◌<◌, ◌-◌, suc, zero, List, [], ◌∷◌, ◌++◌, length, take, drop, take-append-drop, get_or, min, Some, None, Bool, true, false, cond, not, nat_lt, ◌||◌, ◌==◌, Result, Ok, Err, arith, refl, ap, sym, ◌∙◌, subst, ⊎_elim, append_assoc, append-nil}
+use Rattle.std.proofs.Common.{◌≡◌, ℕ, ◌+◌, ◌≤◌, ◌<◌, ◌-◌, suc, zero, List, [], ◌∷◌, ◌++◌, length, take, drop, take-append-drop, get_or, min, Some, None, Bool, true, false, cond, ◌||◌, ◌==◌, Result, Ok, Err, arith, refl, ap, sym, ◌∙◌, subst, ⊎_elim, append_assoc, append-nil}
 use Rattle.std.proofs.lemmas.List.{take_all, length-take-le, length-take, take_more, get_or-take, take_min}
-use Rattle.std.proofs.lemmas.List.Quantifiers.{position-Some}
-use Rattle.std.specs.List.{position, position_or_len}
 use Rattle.std.proofs.Math.Bool.{or-false, or_assoc}
-use Rattle.std.proofs.lemmas.Bool.{cases_lt, lt-ltb, le-ltb, eqb-true, not-true}
-use Rattle.std.proofs.lemmas.List.Sums.{prefix_len_passes}
+use Rattle.std.proofs.lemmas.Bool.{cases_lt, lt-ltb, eqb-true, false_from_ne_true}
 use Rattle.std.specs.Result.{is_err, result_unwrap_or}
+use Rattle.memchr.specs.Find.{IsFirstByte, is_byte}
 use Rattle.pylock_core.specs.Session.State.{State}
 use Rattle.pytext.specs.Results.{◌>>=◌}
-use Rattle.pylock_run.specs.Line.{is_lf, input_lines, complete_lines, onto_first, onto_complete, command_of, line_limit}
+use Rattle.pylock_run.specs.Line.{cut_lines, input_lines, complete_lines, unless_empty, command_of, line_limit}
 use Rattle.pylock_run.specs.Report.{Shown, is_plan, after_line, after_command, outcome_text, lines_text, state_after_all, any_refused}
 use Rattle.pylock_run.specs.Inner.Editing.{EditingValue, start, lines_begun, plan_after, kept_part, end_line, end_text, keep_byte, editing_after, bytes_text, finish, finish_text, after_input, input_end_text}
 use Rattle.pylock_core.specs.Session.Steps.{answer}
@@ -79,30 +77,6 @@ after_line-kept_part : (state : State) (line : List ℕ) → after_line state (k
 unfolding after_line
 after_line-kept_part state line = ap (λ c. c >>= (λ command. after_command state command)) (command_of-kept_part line)
 
--- the lines of an input, when a part of the first of them stands before it
-
-with_prefix : List ℕ → List (List ℕ) → List (List ℕ)
-with_prefix [] [] = []
-with_prefix (b ∷ prefix) [] = (b ∷ prefix) ∷ []
-with_prefix prefix (line ∷ lines) = (prefix ++ line) ∷ lines
-
-with_prefix-nil : (lines : List (List ℕ)) → with_prefix [] lines ≡ lines
-unfolding with_prefix
-with_prefix-nil [] = refl
-with_prefix-nil (line ∷ lines) = refl
-
-with_prefix-complete : (prefix : List ℕ) (lines : List (List ℕ)) → with_prefix prefix ([] ∷ lines) ≡ prefix ∷ lines
-unfolding with_prefix
-with_prefix-complete [] lines = refl
-with_prefix-complete (b ∷ prefix) lines = ap (λ l. (b ∷ l) ∷ lines) (append-nil prefix)
-
-with_prefix-onto_first : (prefix : List ℕ) (b : ℕ) (lines : List (List ℕ)) → with_prefix prefix (onto_first b lines) ≡ with_prefix (prefix ++ b ∷ []) lines
-unfolding with_prefix
-with_prefix-onto_first [] b [] = refl
-with_prefix-onto_first [] b (line ∷ lines) = refl
-with_prefix-onto_first (c ∷ prefix) b [] = refl
-with_prefix-onto_first (c ∷ prefix) b (line ∷ lines) = ap (λ l. (c ∷ l) ∷ lines) (sym (append_assoc prefix (b ∷ []) line))
-
 -- what the lines print and do, as `last` after `text` has it
 pub record Edits (shown : Shown) (at last : EditingValue) (text : List ℕ) (lines : List (List ℕ)) : Type 0 where
   pub prints : text ≡ lines_text shown at.state (at.complete + 1) lines
@@ -141,8 +115,7 @@ line-keep_byte : (at : EditingValue) (prefix : List ℕ) (b : ℕ) → at.line �
 line-keep_byte at prefix b has = ap (λ l. kept_part (l ++ b ∷ [])) has ∙ kept_part-append prefix (b ∷ [])
 
 -- the end of the input
-edits_end : (shown : Shown) (at : EditingValue) (prefix : List ℕ) → at.line ≡ kept_part prefix → Edits shown at (finish at at.line) (finish_text shown at at.line) (with_prefix prefix [])
-unfolding with_prefix
+edits_end : (shown : Shown) (at : EditingValue) (prefix : List ℕ) → at.line ≡ kept_part prefix → Edits shown at (finish at at.line) (finish_text shown at at.line) (unless_empty prefix)
 edits_end shown at [] has = subst (λ l. Edits shown at (finish at l) (finish_text shown at l) []) (sym (has ∙ kept_part-nil)) (Edits-none shown at)
 edits_end shown at (b ∷ prefix) has =
     let cons = kept_part-cons b prefix in
@@ -152,59 +125,31 @@ edits_end shown at (b ∷ prefix) has =
 
 -- the whole input, of which `prefix` stands before what is to come
 edits_on : (shown : Shown) (at : EditingValue) (prefix bytes : List ℕ) → at.line ≡ kept_part prefix
-    → Edits shown at (after_input (editing_after at bytes)) (bytes_text shown at bytes ++ input_end_text shown (editing_after at bytes)) (with_prefix prefix (input_lines bytes))
+    → Edits shown at (after_input (editing_after at bytes)) (bytes_text shown at bytes ++ input_end_text shown (editing_after at bytes)) (cut_lines unless_empty prefix bytes)
 edits_on shown at prefix [] has = edits_end shown at prefix has
 edits_on shown at prefix (b ∷ bytes) has =
     elim (b == 10) as (λ t. Edits shown at (after_input (editing_after (cond t (end_line at) (keep_byte at b)) bytes))
     (cond t (end_text shown at ++ bytes_text shown (end_line at) bytes) (bytes_text shown (keep_byte at b) bytes) ++ input_end_text shown (editing_after (cond t (end_line at) (keep_byte at b)) bytes))
-    (with_prefix prefix (cond t ([] ∷ input_lines bytes) (onto_first b (input_lines bytes))))) [
+    (cond t (prefix ∷ cut_lines unless_empty [] bytes) (cut_lines unless_empty (prefix ++ b ∷ []) bytes))) [
       | true ↦
-          let ih = edits_on shown (end_line at) [] bytes (line-end_line at) in
-          let last = after_input (editing_after (end_line at) bytes) in
-          let more = Edits-more shown at last prefix _ _ has ih in
-          let joined = subst (λ t. Edits shown at last t (prefix ∷ with_prefix [] (input_lines bytes))) (sym (append_assoc (end_text shown at) (bytes_text shown (end_line at) bytes) (input_end_text shown (editing_after (end_line at) bytes)))) more in
-          subst (λ ls. Edits shown at last ((end_text shown at ++ bytes_text shown (end_line at) bytes) ++ input_end_text shown (editing_after (end_line at) bytes)) ls)
-          (ap (λ ls. prefix ∷ ls) (with_prefix-nil (input_lines bytes)) ∙ sym (with_prefix-complete prefix (input_lines bytes))) joined
+          let last = editing_after (end_line at) bytes in
+          let lines = prefix ∷ cut_lines unless_empty [] bytes in
+          let more = Edits-more shown at (after_input last) prefix _ _ has (edits_on shown (end_line at) [] bytes (line-end_line at)) in
+          subst (λ t. Edits shown at (after_input last) t lines) (sym (append_assoc (end_text shown at) (bytes_text shown (end_line at) bytes) (input_end_text shown last))) more
       | false ↦
-          let ih = edits_on shown (keep_byte at b) (prefix ++ b ∷ []) bytes (line-keep_byte at prefix b has) in
-          subst (λ ls. Edits shown at (after_input (editing_after (keep_byte at b) bytes)) (bytes_text shown (keep_byte at b) bytes ++ input_end_text shown (editing_after (keep_byte at b) bytes)) ls)
-          (sym (with_prefix-onto_first prefix b (input_lines bytes)))
-          record { prints = ih.prints; state = ih.state; refused = ih.refused; complete = ih.complete }
+          let more = edits_on shown (keep_byte at b) (prefix ++ b ∷ []) bytes (line-keep_byte at prefix b has) in
+          record { prints = more.prints; state = more.state; refused = more.refused; complete = more.complete }
     ]
-
--- the complete lines of an input, when a part of the first of them stands before it
-with_complete : List ℕ → List (List ℕ) → List (List ℕ)
-with_complete prefix [] = []
-with_complete prefix (line ∷ lines) = (prefix ++ line) ∷ lines
-
-with_complete-nil : (lines : List (List ℕ)) → with_complete [] lines ≡ lines
-unfolding with_complete
-with_complete-nil [] = refl
-with_complete-nil (line ∷ lines) = refl
-
-with_complete-complete : (prefix : List ℕ) (lines : List (List ℕ)) → with_complete prefix ([] ∷ lines) ≡ prefix ∷ lines
-unfolding with_complete
-with_complete-complete prefix lines = ap (λ l. l ∷ lines) (append-nil prefix)
-
-with_complete-onto_complete : (prefix : List ℕ) (b : ℕ) (lines : List (List ℕ)) → with_complete prefix (onto_complete b lines) ≡ with_complete (prefix ++ b ∷ []) lines
-unfolding with_complete
-with_complete-onto_complete prefix b [] = refl
-with_complete-onto_complete prefix b (line ∷ lines) = ap (λ l. l ∷ lines) (sym (append_assoc prefix (b ∷ []) line))
 
 -- a part of the input prints the text of the lines that end in it
 prints_complete_on : (shown : Shown) (at : EditingValue) (prefix bytes : List ℕ) → at.line ≡ kept_part prefix
-    → bytes_text shown at bytes ≡ lines_text shown at.state (at.complete + 1) (with_complete prefix (complete_lines bytes))
-unfolding with_complete
+    → bytes_text shown at bytes ≡ lines_text shown at.state (at.complete + 1) (cut_lines (λ rest. []) prefix bytes)
 prints_complete_on shown at prefix [] has = refl
 prints_complete_on shown at prefix (b ∷ bytes) has =
     elim (b == 10) as (λ t. cond t (end_text shown at ++ bytes_text shown (end_line at) bytes) (bytes_text shown (keep_byte at b) bytes)
-    ≡ lines_text shown at.state (at.complete + 1) (with_complete prefix (cond t ([] ∷ complete_lines bytes) (onto_complete b (complete_lines bytes))))) [
-      | true ↦
-          prints-more shown at prefix _ _ has (prints_complete_on shown (end_line at) [] bytes (line-end_line at))
-          ∙ ap (lines_text shown at.state (at.complete + 1)) (ap (λ ls. prefix ∷ ls) (with_complete-nil (complete_lines bytes)) ∙ sym (with_complete-complete prefix (complete_lines bytes)))
-      | false ↦
-          prints_complete_on shown (keep_byte at b) (prefix ++ b ∷ []) bytes (line-keep_byte at prefix b has)
-          ∙ ap (lines_text shown at.state (at.complete + 1)) (sym (with_complete-onto_complete prefix b (complete_lines bytes)))
+    ≡ lines_text shown at.state (at.complete + 1) (cond t (prefix ∷ cut_lines (λ rest. []) [] bytes) (cut_lines (λ rest. []) (prefix ++ b ∷ []) bytes))) [
+      | true ↦ prints-more shown at prefix _ _ has (prints_complete_on shown (end_line at) [] bytes (line-end_line at))
+      | false ↦ prints_complete_on shown (keep_byte at b) (prefix ++ b ∷ []) bytes (line-keep_byte at prefix b has)
     ]
 
 -- the last answer, told as it was given
@@ -239,7 +184,7 @@ plan_told state bytes =
 -- the whole input
 pub edits : (shown : Shown) (state : State) (bytes : List ℕ)
     → Edits shown (start state) (after_input (editing_after (start state) bytes)) (bytes_text shown (start state) bytes ++ input_end_text shown (editing_after (start state) bytes)) (input_lines bytes)
-edits shown state bytes = subst (Edits shown (start state) _ _) (with_prefix-nil (input_lines bytes)) (edits_on shown (start state) [] bytes (sym kept_part-nil))
+edits shown state bytes = edits_on shown (start state) [] bytes (sym kept_part-nil)
 
 complete-finish : (at : EditingValue) (line : List ℕ) → (finish at line).complete ≡ at.complete + min 1 (length line)
 unfolding end_line
@@ -252,10 +197,9 @@ complete-after_input at = complete-finish at at.line
 
 -- a part of the input prints the text of the lines that end in it
 pub prints_complete : (shown : Shown) (state : State) (bytes : List ℕ) → bytes_text shown (start state) bytes ≡ lines_text shown state 1 (complete_lines bytes)
-prints_complete shown state bytes = prints_complete_on shown (start state) [] bytes (sym kept_part-nil) ∙ ap (lines_text shown state 1) (with_complete-nil (complete_lines bytes))
+prints_complete shown state bytes = prints_complete_on shown (start state) [] bytes (sym kept_part-nil)
 
 -- bytes without an LF
-
 IsPart : List ℕ → Type 0
 IsPart bytes = (k : ℕ) → k < length bytes → (get_or bytes k 0 == 10) ≡ false
 
@@ -274,29 +218,9 @@ part_text shown at (b ∷ bytes) part =
     ap (λ t. cond t (end_text shown at ++ bytes_text shown (end_line at) bytes) (bytes_text shown (keep_byte at b) bytes)) (part 0 (omega arith))
     ∙ part_text shown (keep_byte at b) bytes (λ k below. part (suc k) (omega arith))
 
-before_lf : (bytes : List ℕ) (k : ℕ) → k < position_or_len is_lf bytes → (get_or bytes k 0 == 10) ≡ false
-before_lf bytes k below = not-true (is_lf (get_or bytes k 0)) (prefix_len_passes (λ b. not (is_lf b)) bytes k 0 below)
-
-none≢some : {n : ℕ} → None ≡ Some n → ⊥
-none≢some e = cc
-
-none_past : (n len : ℕ) → cond (nat_lt n len) (Some n) None ≡ None → len ≤ n
-none_past n len none = ⊎_elim
-    (λ (below : n < len). absurd (none≢some (sym none ∙ ap (λ t. cond t (Some n) None) (lt-ltb n len below))))
-    (λ (past : len ≤ n). past)
-    (cases_lt n len)
-
-some_position : (n m len : ℕ) → cond (nat_lt n len) (Some n) None ≡ Some m → (n ≡ m) × (n < len)
-some_position n m len some = ⊎_elim
-    (λ (below : n < len). let e : Some n ≡ Some m = sym (ap (λ t. cond t (Some n) None) (lt-ltb n len below)) ∙ some in let same : n ≡ m = cc in (same, below))
-    (λ (past : len ≤ n). absurd (none≢some (sym (ap (λ t. cond t (Some n) None) (le-ltb n len past)) ∙ some)))
-    (cases_lt n len)
-
-IsPart-none : (bytes : List ℕ) → position is_lf bytes ≡ None → IsPart bytes
+IsPart-none : (bytes : List ℕ) → IsFirstByte (is_byte 10) bytes None → IsPart bytes
 unfolding IsPart
-IsPart-none bytes none k below =
-    let past : length bytes ≤ position_or_len is_lf bytes = none_past (position_or_len is_lf bytes) (length bytes) none in
-    before_lf bytes k (omega arith)
+IsPart-none bytes none k below = false_from_ne_true _ (none k (omega arith) below)
 
 -- up to the first LF, and that LF
 record UpToLf (bytes : List ℕ) (n : ℕ) : Type 0 where
@@ -304,26 +228,24 @@ record UpToLf (bytes : List ℕ) (n : ℕ) : Type 0 where
   pub part : IsPart (take n bytes)
   pub whole : take (n + 1) bytes ≡ take n bytes ++ 10 ∷ []
 
-UpToLf-some : (bytes : List ℕ) (n : ℕ) → position is_lf bytes ≡ Some n → UpToLf bytes n
+UpToLf-some : (bytes : List ℕ) (n : ℕ) → IsFirstByte (is_byte 10) bytes (Some n) → UpToLf bytes n
 unfolding IsPart
-UpToLf-some bytes n some =
-    let position = some_position (position_or_len is_lf bytes) n (length bytes) some in
-    let found = position-Some is_lf bytes n 0 some in
+UpToLf-some bytes n found =
     record {
-      within = found.0;
+      within = found.0.high;
       part = λ k below.
           let less : k < n = (let size = length-take n bytes in omega arith) in
-          ap (λ b. b == 10) (get_or-take n bytes k 0 less) ∙ found.2 k less;
-      whole = take_more bytes n 0 found.0 ∙ ap (λ b. take n bytes ++ b ∷ []) (eqb-true (get_or bytes n 0) 10 found.1);
+          ap (λ b. b == 10) (get_or-take n bytes k 0 less) ∙ false_from_ne_true _ (found.0.before k (omega arith) less);
+      whole = take_more bytes n 0 found.0.high ∙ ap (λ b. take n bytes ++ b ∷ []) (eqb-true (get_or bytes n 0) 10 found.1);
     }
 
-pub line_done : (at : EditingValue) (bytes : List ℕ) (n : ℕ) → position is_lf bytes ≡ Some n → kept_part at.line ≡ at.line
+pub line_done : (at : EditingValue) (bytes : List ℕ) (n : ℕ) → IsFirstByte (is_byte 10) bytes (Some n) → kept_part at.line ≡ at.line
     → editing_after at (take (n + 1) bytes) ≡ end_line (record at { line = kept_part (at.line ++ take n bytes) })
 line_done at bytes n some short =
     let up = UpToLf-some bytes n some in
     ap (editing_after at) up.whole ∙ editing_after-append at (take n bytes) (10 ∷ []) ∙ ap (λ a. end_line a) (part_done at (take n bytes) up.part short)
 
-pub line_prints : (shown : Shown) (at : EditingValue) (bytes : List ℕ) (n : ℕ) → position is_lf bytes ≡ Some n → kept_part at.line ≡ at.line
+pub line_prints : (shown : Shown) (at : EditingValue) (bytes : List ℕ) (n : ℕ) → IsFirstByte (is_byte 10) bytes (Some n) → kept_part at.line ≡ at.line
     → bytes_text shown at (take (n + 1) bytes) ≡ end_text shown (record at { line = kept_part (at.line ++ take n bytes) })
 line_prints shown at bytes n some short =
     let up = UpToLf-some bytes n some in
@@ -334,11 +256,11 @@ line_prints shown at bytes n some short =
 
 -- all bytes, where none is an LF
 
-pub rest_done : (at : EditingValue) (bytes : List ℕ) → position is_lf bytes ≡ None → kept_part at.line ≡ at.line
+pub rest_done : (at : EditingValue) (bytes : List ℕ) → IsFirstByte (is_byte 10) bytes None → kept_part at.line ≡ at.line
     → editing_after at bytes ≡ record at { line = kept_part (at.line ++ bytes) }
 rest_done at bytes none short = part_done at bytes (IsPart-none bytes none) short
 
-pub rest_prints : (shown : Shown) (at : EditingValue) (bytes : List ℕ) → position is_lf bytes ≡ None → bytes_text shown at bytes ≡ []
+pub rest_prints : (shown : Shown) (at : EditingValue) (bytes : List ℕ) → IsFirstByte (is_byte 10) bytes None → bytes_text shown at bytes ≡ []
 rest_prints shown at bytes none = part_text shown at bytes (IsPart-none bytes none)
 
 -- what a line keeps of more bytes

@@ -6,7 +6,7 @@ use Rattle.std.proofs.lemmas.List.{length-append, length-drop, length-take-le, t
 use Rattle.std.proofs.lemmas.List.Folds.{list_all-append}
 use Rattle.std.specs.List.{list_all}
 use Rattle.pylock_run.specs.Inner.FileLine.{AreOrdinary, joined_texts}
-use Rattle.pylock_run.specs.Inner.OrdinaryBytes.{is_ordinary}
+use Rattle.pylock_run.specs.Inner.Fields.{is_ordinary}
 use Rattle.pylock_run.specs.declared.text.file_line.FileTexts.{FileTexts}
 
 joined : (front part more whole : List ℕ) → whole ≡ front ++ part → whole ++ more ≡ front ++ (part ++ more)

@@ -7,7 +7,7 @@ use Rattle.std.proofs.lemmas.Nat.{mod_below}
 use Rattle.std.specs.List.{list_all}
 use Rattle.std.specs.Simd.{first_chunks}
 use Rattle.pylock_run.specs.Text.Field.{escape_byte, escaped_text}
-use Rattle.pylock_run.specs.Inner.OrdinaryBytes.{is_ordinary}
+use Rattle.pylock_run.specs.Inner.Fields.{is_ordinary}
 
 ordinary_byte_stands : (b : ℕ) → is_ordinary b ≡ true → escape_byte b ≡ b ∷ []
 ordinary_byte_stands b ordinary =

@@ -1,5 +1,5 @@
 -- How far the reading of a whole source has come.
-use Rattle.std.proofs.Common.{◌≡◌, ℕ, ◌+◌, ◌-◌, ◌<◌, ◌≤◌, List, [], ◌++◌, length, take, ap, ◌∙◌, subst, length-append, arith, Result, Ok, Err, IfOk, OnErr, Some}
+use Rattle.std.proofs.Common.{◌≡◌, ℕ, ◌-◌, ◌<◌, ◌≤◌, List, [], ◌++◌, length, take, ap, ◌∙◌, subst, length-append, arith, Result, Ok, Err, IfOk, OnErr, Some}
 use Rattle.std.proofs.KnownBytes.{Consumes-trans}
 use Rattle.std.specs.Io.KnownBytes.{Consumes, ReadConsumes}
 use Rattle.pylock_run.specs.Stream.{SourceValue, one_more}

@@ -39,6 +39,9 @@ lines_total begun complete lines same total = omega arith
 past_all : (size limit : ℕ) → limit < 0 + size → limit < size
 past_all size limit past = omega arith
 
+bytes_within : (total size limit : ℕ) → total ≡ 0 + size → total ≤ limit → size ≤ limit
+bytes_within total size limit same within = omega arith
+
 -- how many lines it has
 lines_of_input : (shown : Shown) (state : State) (input : List ℕ) → lines_begun (editing_after (start state) input) ≡ length (input_lines input)
 lines_of_input shown state input =
@@ -112,7 +115,7 @@ pub stops_at_last : (shown : Shown) (state : State) (source source' : SourceValu
     → at ≡ start state → Writes sink mid (shown.answer state) → EditsAll shown source source' mid late at last
     → TakesPrefix late sink' (input_end_text shown last) → IsOutputFault late sink' fault → IsRunShown shown (begun state) source source' sink sink' (Err fault)
 stops_at_last shown state source source' sink mid late sink' at last fault begins first all prefix why =
-    let edited = subst (λ a. EditsAll shown source source' mid late a last) begins all in
+    let (total, edited, within) = subst (λ a. EditsAll shown source source' mid late a last) begins all in
     let input = edited.given in
     let here = before_last shown state sink mid late input first edited.writes in
     stopped shown state source source' sink sink' fault (record {
@@ -136,7 +139,7 @@ pub session_reports : (shown : Shown) (state : State) (source source' : SourceVa
     → status ≡ cond (end.plan && not end.refused) 0 1
     → IsRunShown shown (begun state) source source' sink sink' (Ok status)
 session_reports shown state source source' sink mid late sink' at last end status begins first all at_end lines complete written told =
-    let edited = subst (λ a. EditsAll shown source source' mid late a last) begins all in
+    let (total, edited, within) = subst (λ a. EditsAll shown source source' mid late a last) begins all in
     let input = edited.given in
     let here = before_last shown state sink mid late input first edited.writes in
     let done = after_input (editing_after (start state) input) in
@@ -156,7 +159,7 @@ session_reports shown state source source' sink mid late sink' at last end statu
       writes = whole.counted;
       ends = inr (
         at_end,
-        (subst (λ n. n ≤ most_lines) (ap (λ a. lines_begun a) edited.editing ∙ lines_of_input shown state input) lines, edited.within),
+        (subst (λ n. n ≤ most_lines) (ap (λ a. lines_begun a) edited.editing ∙ lines_of_input shown state input) lines, bytes_within total (length input) most_bytes edited.size within),
       );
     } in
     record { reports = reports; stops = tt; unasked = λ refused. cc }

@@ -4,7 +4,7 @@ use Rattle.std.proofs.KnownBytes.{Appends-trans, Consumes-trans}
 use Rattle.std.proofs.Math.Seq.{take-add}
 use Rattle.std.proofs.lemmas.List.{take_all}
 use Rattle.std.specs.Io.KnownBytes.{Appends}
-use Rattle.pylock_run.specs.Inner.Edited.{Edited, EditsAll, EditFault}
+use Rattle.pylock_run.specs.Inner.Edited.{Edited, EditFault}
 use Rattle.pylock_run.specs.Inner.Editing.{EditingValue, editing_after, bytes_text, lines_begun}
 use Rattle.pylock_run.specs.Inner.Faults.{IsTakeFault, IsFeedFault, IsWriteFault}
 use Rattle.pylock_run.specs.Inner.Writes.{Writes, Pours}
@@ -181,14 +181,3 @@ EditFault-after shown source s source' sink k sink' start at total out fault bef
           (λ memory. (memory.0 ∙ reads, memory.1 ∙ writes))
           after.cause;
     }
-
-pub EditsAll-from : (shown : Shown) (source source' : SourceValue) (sink sink' : SinkValue) (start at : EditingValue) (total : ℕ) → Edited shown source source' sink sink' start at 0 total
-    → total ≤ most_bytes → EditsAll shown source source' sink sink' start at
-EditsAll-from shown source source' sink sink' start at total edited within = record {
-  given = edited.given;
-  gave = edited.gave;
-  within = let size = edited.size in omega arith;
-  editing = edited.editing;
-  writes = edited.writes;
-  reads = edited.reads;
-}

@@ -1,5 +1,5 @@
 -- Texts that are given to a terminal: how far one needs no change, and what is given of it round a character that steers.
-use Rattle.std.proofs.Common.{◌≡◌, cond, ℕ, ◌&&◌, Bool, ◌+◌, true, false, List, [], ◌++◌, flat_map, length, take, refl, sym, ap, ◌∙◌, subst, append_assoc, append-nil, length-append, arith}
+use Rattle.std.proofs.Common.{◌<◌, ◌≡◌, cond, ℕ, ◌&&◌, Bool, ◌+◌, true, false, List, [], ◌++◌, flat_map, length, take, refl, sym, ap, ◌∙◌, subst, append_assoc, append-nil, length-append, arith}
 use Rattle.std.proofs.Math.Seq.{take-append_seam}
 use Rattle.std.proofs.lemmas.Grind.{flat_map-append}
 use Rattle.std.proofs.lemmas.List.{nil_from_length}
@@ -7,7 +7,6 @@ use Rattle.std.proofs.lemmas.Str.{cons_from_encodes, chars-nil, chars-append, ch
 use Rattle.std.specs.Char.{encode_utf8, len_utf8, IsScalar}
 use Rattle.std.specs.Str.{IsUtf8, IsCharBoundary, all_scalars, chars}
 use Rattle.pylock_shown.specs.Visible.{control_text}
-use Rattle.pylock_run.specs.Inner.AroundControl.{AroundControl}
 use Rattle.pylock_run.specs.Stream.Terminal.{steers_terminal, terminal_character, terminal_text}
 
 -- the first n bytes of the text are a text that needs no change, and the rest is left
@@ -65,27 +64,26 @@ Plain-all text rest n before none =
 Plain-front : (text rest : List ℕ) (n : ℕ) (before : Plain text n rest) → take n text ≡ before.front
 Plain-front text rest n before = ap (λ m. take m text) before.len ∙ ap (take (length before.front)) before.split ∙ take-append_seam before.front rest
 
+-- what is given of a text round a character that steers
 pub Plain-found : (text rest behind front : List ℕ) (n c : ℕ) → Plain text n rest → IsUtf8 rest → rest ≡ encode_utf8 c ++ behind → steers_terminal c ≡ true
-    → front ≡ take n text → AroundControl text front c behind
-Plain-found text rest behind front n c before utf8 next steers taken = record {
-  shown = ap terminal_text before.split ∙ terminal_text-append before.front rest before.utf8 ∙ ap (λ t. t ++ terminal_text rest) before.same
-      ∙ ap (λ t. before.front ++ t) (terminal_text_past rest behind c utf8 next ∙ ap (λ b. cond b (control_text c) (encode_utf8 c) ++ terminal_text behind) steers)
-      ∙ ap (λ t. t ++ (control_text c ++ terminal_text behind)) (sym (taken ∙ Plain-front text rest n before));
-  less = omega (
-    arith,
-    ap length before.split ∙ length-append before.front rest,
-    ap length next ∙ length-append (encode_utf8 c) behind,
-    length-encode c,
-    (len_utf8_bounds c).0,
-  );
-}
+    → front ≡ take n text → terminal_text text ≡ (front ++ control_text c) ++ terminal_text behind
+Plain-found text rest behind front n c before utf8 next steers taken =
+    ap terminal_text before.split ∙ terminal_text-append before.front rest before.utf8 ∙ ap (λ t. t ++ terminal_text rest) before.same
+    ∙ ap (λ t. before.front ++ t) (terminal_text_past rest behind c utf8 next ∙ ap (λ b. cond b (control_text c) (encode_utf8 c) ++ terminal_text behind) steers)
+    ∙ ap (λ t. t ++ (control_text c ++ terminal_text behind)) (sym (taken ∙ Plain-front text rest n before))
+    ∙ sym (append_assoc front (control_text c) (terminal_text behind))
+
+pub Plain-less : (text rest behind : List ℕ) (n c : ℕ) → Plain text n rest → rest ≡ encode_utf8 c ++ behind → length behind < length text
+Plain-less text rest behind n c before next = omega (
+  arith,
+  ap length before.split ∙ length-append before.front rest,
+  ap length next ∙ length-append (encode_utf8 c) behind,
+  length-encode c,
+  (len_utf8_bounds c).0,
+)
 
 pub Plain-boundary : (text rest : List ℕ) (n : ℕ) → Plain text n rest → IsUtf8 rest → IsCharBoundary text n
 Plain-boundary text rest n before utf8 = subst (IsCharBoundary text) (sym before.len) (IsCharBoundary-at_seam text before.front rest before.split utf8)
-
--- what is given of a text round such a character, in two parts
-pub around-parts : (text plain behind : List ℕ) (c : ℕ) → AroundControl text plain c behind → terminal_text text ≡ (plain ++ control_text c) ++ terminal_text behind
-around-parts text plain behind c around = around.shown ∙ sym (append_assoc plain (control_text c) (terminal_text behind))
 
 -- the number of a character behind an empty text
 pub number_is : (number items start : List ℕ) (c : ℕ) → number ≡ items → items ≡ start ++ control_text c → start ≡ [] → number ≡ control_text c

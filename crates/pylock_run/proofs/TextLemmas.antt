@@ -7,7 +7,7 @@ use Rattle.std.proofs.Math.Bool.{and-false}
 use Rattle.std.proofs.lemmas.List.Concat.{flat_map-append}
 use Rattle.pylock_run.specs.Text.Field.{escape_byte, escaped_text, field}
 use Rattle.pylock_run.specs.Text.Plan.{hash_text, hashes_text}
-use Rattle.pylock_run.specs.Inner.Hashes.{escaped_hash, more_hashes}
+use Rattle.pylock_run.specs.Inner.Fields.{escaped_hash, more_hashes}
 
 -- a text with another mark in it is not `-`
 not_dash : (mark : ℕ) (prefix rest : List ℕ) → eqb mark 45 ≡ false → bytes_eq (prefix ++ mark ∷ rest) (45 ∷ []) ≡ false

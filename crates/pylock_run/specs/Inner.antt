@@ -4,7 +4,5 @@ pub mod Writes
 pub mod Faults
 pub mod Edited
 pub mod FileLine
-pub mod Hashes
+pub mod Fields
 pub mod Pieces
-pub mod OrdinaryBytes
-pub mod AroundControl

@@ -2,7 +2,7 @@
 pub mod Argument
 pub mod Commands
 pub mod Refusal
-use Rattle.std.specs.Prelude.{ℕ, ◌-◌, ◌==◌, nat_lt, Bool, length, take}
+use Rattle.std.specs.Prelude.{ℕ, ◌-◌, ◌==◌, ◌++◌, nat_lt, Bool, length, take}
 use Rattle.std.specs.Prelude.{List, [], ◌∷◌, if◌then◌else◌, Some, None, Result, Err}
 use Rattle.std.specs.List.{before_first, after_first, list_any, ends_with}
 use Rattle.std.specs.Str.{is_utf8}
@@ -12,27 +12,25 @@ use Rattle.pylock_run.specs.declared.line.commands.Command.{Command}
 use Rattle.pylock_run.specs.declared.line.refusal.LineRefusal.{LineRefusal}
 use Rattle.pylock_run.specs.declared.line.refusal.LineRefusal.TheVariants as refusal
 
--- a byte put before the first line, or a line of its own where there is none
-abbrev pub onto_first : ℕ → List (List ℕ) → List (List ℕ)
-onto_first b [] = (b ∷ []) ∷ []
-onto_first b (line ∷ lines) = (b ∷ line) ∷ lines
+-- the lines of bytes behind this part of the first of them; `last` says which are made of what
+-- stands behind the last LF
+abbrev pub cut_lines : (last : List ℕ → List (List ℕ)) → (part bytes : List ℕ) → List (List ℕ)
+cut_lines last part [] = last part
+cut_lines last part (b ∷ bytes) =
+    if b == 10 then part ∷ cut_lines last [] bytes else cut_lines last (part ++ b ∷ []) bytes
+
+abbrev pub unless_empty : List ℕ → List (List ℕ)
+unless_empty [] = []
+unless_empty (b ∷ line) = (b ∷ line) ∷ []
 
 -- The lines of an input, without their LFs: a line ends at LF, and what stands after the last LF is
 -- a line where it is not empty.
 abbrev pub input_lines : List ℕ → List (List ℕ)
-input_lines [] = []
-input_lines (b ∷ rest) = if b == 10 then [] ∷ input_lines rest else onto_first b (input_lines rest)
-
--- a byte put before the first line, where there is one
-abbrev pub onto_complete : ℕ → List (List ℕ) → List (List ℕ)
-onto_complete b [] = []
-onto_complete b (line ∷ lines) = (b ∷ line) ∷ lines
+input_lines input = cut_lines unless_empty [] input
 
 -- the complete lines of an input: those whose LF stands in it
 abbrev pub complete_lines : List ℕ → List (List ℕ)
-complete_lines [] = []
-complete_lines (b ∷ rest) =
-    if b == 10 then [] ∷ complete_lines rest else onto_complete b (complete_lines rest)
+complete_lines input = cut_lines (λ rest. []) [] input
 
 -- the line without one CR at its end
 abbrev pub without_cr : List ℕ → List ℕ

@@ -39,8 +39,7 @@ pub use stream::output::Output;
 pub use stream::terminal::ToTerminal;
 pub use stream::whole::{FileFault, read_whole};
 pub use stream::wrapper::{FromRead, ToWrite};
-pub use stream::writer::write_all;
-pub use stream::{IoFault, Sink, Source};
+pub use stream::{IoFault, Sink, Source, write_all};
 pub use text::field::{push_decimal, push_field, push_last_word, push_next_field, push_word};
 pub use text::plan::{push_answer, push_source_line};
 pub use text::refusal::{

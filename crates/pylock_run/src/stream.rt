@@ -3,15 +3,14 @@
 //! A source exposes to contracts the bytes that are to come, a sink those that it took; each may
 //! expose none. Both expose how often they failed, a count that stops at its last value.
 ghost use Rattle.std.specs.Prelude.{◌≡◌, ◌<◌, ◌≤◌, length, IfOk, OnErr, OnOk};
-ghost use Rattle.std.specs.Io.KnownBytes.{ReadConsumes, WriteAppends};
-ghost use Rattle.pylock_run.specs.Stream.{SourceValue, SinkValue, one_more};
+ghost use Rattle.std.specs.Io.KnownBytes.{Appends, ReadConsumes, WriteAppends};
+ghost use Rattle.pylock_run.specs.Stream.{SourceValue, SinkValue, TakesPrefix, one_more};
 
 pub mod memory;
 pub mod output;
 pub mod terminal;
 pub mod whole;
 pub mod wrapper;
-pub mod writer;
 
 /// A read or a write that failed. What failed is not told.
 #[derive(Clone, Copy, Debug, PartialEq, Eq)]
@@ -47,4 +46,26 @@ pub trait Sink {
             → (value self.new).failures ≡ one_more (value self.old).failures) }
         ensures failed { OnErr result
             ((value self.new).failures ≡ one_more (value self.old).failures) };
+}
+
+/// Writes all of `text`. A sink that fails, or takes none of what is left, ends the loop, and then
+/// it has taken a prefix of `text`.
+pub fn write_all<W: Sink>(writer: &mut W, text: &[u8]) -> Result<(), IoFault>
+    ensures ok { OnOk result
+        (Appends (W.value writer.old).held (W.value writer.new).held text.now) }
+    ensures counted { OnOk result
+        ((W.value writer.new).failures ≡ (W.value writer.old).failures) }
+    ensures err { OnErr result (TakesPrefix (W.value writer.old) (W.value writer.new) text.now) }
+    ensures failed { OnErr result
+        ((W.value writer.new).failures ≡ one_more (W.value writer.old).failures) }
+{
+    let mut done = 0;
+    while done < text.len() {
+        let taken = writer.write(&text[done..])?;
+        if taken == 0 {
+            return Err(IoFault);
+        }
+        done += taken;
+    }
+    Ok(())
 }

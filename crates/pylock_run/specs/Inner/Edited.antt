@@ -21,14 +21,10 @@ pub record Edited (shown : Shown) (source source' : SourceValue) (sink sink' : S
   pub reads : source'.failures ≡ source.failures
 
 -- the same of the whole input, which is no longer than it may be
-pub record EditsAll (shown : Shown) (source source' : SourceValue) (sink sink' : SinkValue)
-    (start at : EditingValue) : Type 0 where
-  pub given : List ℕ
-  pub gave : Consumes source.rest source'.rest given
-  pub within : length given ≤ most_bytes
-  pub editing : at ≡ editing_after start given
-  pub writes : Writes sink sink' (bytes_text shown start given)
-  pub reads : source'.failures ≡ source.failures
+abbrev pub EditsAll : Shown → (source source' : SourceValue) → (sink sink' : SinkValue)
+    → (start at : EditingValue) → Type 0
+EditsAll shown source source' sink sink' start at =
+    (total : ℕ) × Edited shown source source' sink sink' start at 0 total × (total ≤ most_bytes)
 
 -- the bytes that were given, with those before, are more than there may be
 pub record GivesPastLimit (total : ℕ) (source source' : SourceValue) : Type 0 where

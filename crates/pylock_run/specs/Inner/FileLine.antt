@@ -3,7 +3,7 @@ use Rattle.std.specs.Prelude.{◌≡◌, ℕ, ◌++◌, ◌+◌, ◌≤◌, List
 use Rattle.std.specs.Prelude.{Some, None}
 use Rattle.std.specs.List.{list_all}
 use Rattle.pylock_readers.specs.Entry.{EntryValue, FileValue, file_name, place_of}
-use Rattle.pylock_run.specs.Inner.OrdinaryBytes.{is_ordinary}
+use Rattle.pylock_run.specs.Inner.Fields.{is_ordinary}
 use Rattle.pylock_run.specs.Text.Field.{field}
 use Rattle.pylock_run.specs.Text.Plan.{hashes_text}
 use Rattle.pylock_run.specs.declared.text.file_line.FileTexts.{FileTexts}

@@ -1,7 +1,6 @@
--- What follows the command of a line: its argument, absent where no space follows the command.
+-- What follows the command of a line and a space: its argument.
 use Rattle.std.specs.Prelude.{ℕ, ◌==◌, ◌&&◌, not, false, nat_le, Bool, length, List, [], ◌∷◌}
-use Rattle.std.specs.Prelude.{if◌then◌else◌, Option, Some, None, filter, Result, Ok, Err}
-use Rattle.std.specs.Option.{ok_or}
+use Rattle.std.specs.Prelude.{if◌then◌else◌, filter, Result, Ok, Err}
 use Rattle.std.specs.List.{before_first, after_first, list_any, list_all, slice_split}
 use Rattle.std.specs.Char.{is_ascii_digit}
 use Rattle.std.specs.Str.Parse.{digits_value}
@@ -10,10 +9,6 @@ use Rattle.pylock_run.specs.declared.line.refusal.LineRefusal.TheVariants as ref
 
 abbrev pub is_space : ℕ → Bool
 is_space b = b == 32
-
--- the argument, which has to be there
-abbrev pub required_argument : Option (List ℕ) → Result (List ℕ) LineRefusal
-required_argument argument = ok_or argument refusal.Argument
 
 -- a text that isn't empty
 abbrev pub nonempty_text : List ℕ → Result (List ℕ) LineRefusal
@@ -38,11 +33,9 @@ is_entry_number (first ∷ rest) =
     not (first == 48) && nat_le (length (first ∷ rest)) most_number_digits
     && list_all is_ascii_digit (first ∷ rest)
 
-abbrev pub entry_number : List ℕ → Option ℕ
-entry_number text = if is_entry_number text then Some (digits_value 10 text) else None
-
 abbrev pub number_argument : List ℕ → Result ℕ LineRefusal
-number_argument text = ok_or (entry_number text) refusal.Argument
+number_argument text =
+    if is_entry_number text then Ok (digits_value 10 text) else Err refusal.Argument
 
 -- the pieces between the spaces that aren't empty
 abbrev pub is_nonempty : List ℕ → Bool
@@ -50,8 +43,3 @@ is_nonempty text = not (length text == 0)
 
 abbrev pub pieces : List ℕ → List (List ℕ)
 pieces text = filter is_nonempty (slice_split is_space text)
-
--- the pieces of an argument, none where it is absent
-abbrev pub pieces_of : Option (List ℕ) → List (List ℕ)
-pieces_of None = []
-pieces_of (Some text) = pieces text

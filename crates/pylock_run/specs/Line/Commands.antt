@@ -1,5 +1,6 @@
 -- What the commands of an input ask for: one definition for each, with its refusals in order.
-use Rattle.std.specs.Prelude.{ℕ, codes, List, if◌then◌else◌, Option, Some, None, Result, Ok, Err}
+use Rattle.std.specs.Prelude.{ℕ, codes, List, [], if◌then◌else◌, Option, Some, None, Result, Ok}
+use Rattle.std.specs.Prelude.{Err, unwrap_or}
 use Rattle.std.specs.Option.{ok_or}
 use Rattle.std.specs.Result.{result_map_both}
 use Rattle.std.specs.Str.{bytes_eq}
@@ -16,8 +17,7 @@ use Rattle.pylock_core.specs.declared.edit.Edit.{Edit}
 use Rattle.pylock_core.specs.declared.edit.Edit.TheVariants as edit
 use Rattle.pylock_core.specs.declared.edit.Policy.{Policy}
 use Rattle.pylock_core.specs.declared.edit.Policy.TheVariants as policy
-use Rattle.pylock_run.specs.Line.Argument.{required_argument, nonempty_text, split_at_space}
-use Rattle.pylock_run.specs.Line.Argument.{number_argument, pieces_of}
+use Rattle.pylock_run.specs.Line.Argument.{nonempty_text, number_argument, pieces, split_at_space}
 use Rattle.pylock_run.specs.Line.Refusal.{entry_refusal, tags_refusal}
 use Rattle.pylock_run.specs.declared.line.commands.Command.{Command}
 use Rattle.pylock_run.specs.declared.line.commands.Command.TheVariants as command
@@ -54,72 +54,64 @@ show_after None = Ok command.Show
 show_after (Some argument) = Err refusal.Argument
 
 -- `set NAME VALUE`: the value is any text, also the empty one
-unfoldable pub set_after : Option (List ℕ) → Result Change LineRefusal
+unfoldable pub set_after : List ℕ → Result Change LineRefusal
 set_after argument = do
-  text ← required_argument argument
-  cut ← split_at_space text
+  cut ← split_at_space argument
   variable ← variable_argument cut.0
   Ok (change.Set variable cut.1)
 
 -- `unset NAME`
-unfoldable pub unset_after : Option (List ℕ) → Result Change LineRefusal
+unfoldable pub unset_after : List ℕ → Result Change LineRefusal
 unset_after argument = do
-  text ← required_argument argument
-  name ← nonempty_text text
+  name ← nonempty_text argument
   variable ← variable_argument name
   Ok (change.Unset variable)
 
 -- The argument of `extra+` and `extra-`, and of `group+` and `group-`: a name. Whether the lock
 -- knows it is the edit's to judge, and refused by the same word.
-unfoldable pub name_after : LineRefusal → Option (List ℕ) → Result (List ℕ) LineRefusal
+unfoldable pub name_after : LineRefusal → List ℕ → Result (List ℕ) LineRefusal
 name_after refused argument = do
-  text ← required_argument argument
-  name ← nonempty_text text
+  name ← nonempty_text argument
   name_or refused name
 
 -- `extra+ NAME`, `extra- NAME`, `group+ NAME` and `group- NAME`
-abbrev pub named_after : (List ℕ → Change) → LineRefusal → Option (List ℕ)
-    → Result Change LineRefusal
+abbrev pub named_after : (List ℕ → Change) → LineRefusal → List ℕ → Result Change LineRefusal
 named_after change refused argument = do
   name ← name_after refused argument
   Ok (change name)
 
--- `tags TAG TAG ..`: tags with spaces between them; without an argument, none
-unfoldable pub tags_after : Option (List ℕ) → Result Edit LineRefusal
+-- `tags TAG TAG ..`: tags with spaces between them, which may be none
+unfoldable pub tags_after : List ℕ → Result Edit LineRefusal
 tags_after argument = do
-  tags ← tags_argument (pieces_of argument)
+  tags ← tags_argument (pieces argument)
   Ok (edit.Tags tags)
 
 -- `add ENTRY`
-unfoldable pub add_after : Option (List ℕ) → Result Edit LineRefusal
+unfoldable pub add_after : List ℕ → Result Edit LineRefusal
 add_after argument = do
-  text ← required_argument argument
-  body ← nonempty_text text
+  body ← nonempty_text argument
   entry ← entry_argument body
   Ok (edit.Add entry)
 
 -- `put ID ENTRY`
-unfoldable pub put_after : Option (List ℕ) → Result Edit LineRefusal
+unfoldable pub put_after : List ℕ → Result Edit LineRefusal
 put_after argument = do
-  text ← required_argument argument
-  cut ← split_at_space text
+  cut ← split_at_space argument
   number ← number_argument cut.0
   body ← nonempty_text cut.1
   entry ← entry_argument body
   Ok (edit.Put number entry)
 
 -- `del ID`
-unfoldable pub del_after : Option (List ℕ) → Result Edit LineRefusal
+unfoldable pub del_after : List ℕ → Result Edit LineRefusal
 del_after argument = do
-  text ← required_argument argument
-  number ← number_argument text
+  number ← number_argument argument
   Ok (edit.Del number)
 
 -- `policy NAME POLICY`
-unfoldable pub policy_after : Option (List ℕ) → Result Edit LineRefusal
+unfoldable pub policy_after : List ℕ → Result Edit LineRefusal
 policy_after argument = do
-  text ← required_argument argument
-  cut ← split_at_space text
+  cut ← split_at_space argument
   policy ← policy_argument cut.1
   name ← name_or refusal.Name cut.0
   Ok (edit.Policy name policy)
@@ -127,7 +119,7 @@ policy_after argument = do
 -- ---- all of them
 
 -- the change of the environment that a command's word and its argument ask for
-unfoldable pub change_after : List ℕ → Option (List ℕ) → Result Change LineRefusal
+unfoldable pub change_after : (word argument : List ℕ) → Result Change LineRefusal
 change_after word argument =
     if bytes_eq word (codes "set") then set_after argument
     else if bytes_eq word (codes "unset") then unset_after argument
@@ -142,7 +134,7 @@ abbrev pub change_edit : Result Change LineRefusal → Result Edit LineRefusal
 change_edit read = read >>= λ change. Ok (edit.Environment change)
 
 -- the edit that they ask for
-unfoldable pub edit_after : List ℕ → Option (List ℕ) → Result Edit LineRefusal
+unfoldable pub edit_after : (word argument : List ℕ) → Result Edit LineRefusal
 edit_after word argument =
     if bytes_eq word (codes "tags") then tags_after argument
     else if bytes_eq word (codes "add") then add_after argument
@@ -155,8 +147,8 @@ edit_after word argument =
 abbrev pub edit_command : Result Edit LineRefusal → Result Command LineRefusal
 edit_command read = read >>= λ edit. Ok (command.Edit edit)
 
--- what a command's word and its argument ask for
+-- what a command's word and its argument ask for; an edit takes an absent argument as an empty one
 unfoldable pub command_after : List ℕ → Option (List ℕ) → Result Command LineRefusal
 command_after word argument =
     if bytes_eq word (codes "show") then show_after argument
-    else edit_command (edit_after word argument)
+    else edit_command (edit_after word (unwrap_or argument []))

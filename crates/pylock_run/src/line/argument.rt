@@ -1,23 +1,13 @@
 //! What follows the command of a line: its argument.
 
 ghost use Rattle.std.specs.Prelude.{◌≡◌, ◌++◌, ◌∷◌, [], Ok, OnOk, filter, map};
-ghost use Rattle.std.specs.Option.{option_copied};
 ghost use Rattle.pytext.specs.Agreement.{Gives};
-ghost use Rattle.pylock_run.specs.Line.Argument.{required_argument, nonempty_text, split_at_space};
-ghost use Rattle.pylock_run.specs.Line.Argument.{number_argument, entry_number, is_entry_number};
-ghost use Rattle.pylock_run.specs.Line.Argument.{is_nonempty, pieces, pieces_of};
+ghost use Rattle.pylock_run.specs.Line.Argument.{nonempty_text, split_at_space, number_argument};
+ghost use Rattle.pylock_run.specs.Line.Argument.{is_entry_number, is_nonempty, pieces};
 
 use crate::line::refusal::LineRefusal;
 use pytext::are_digits;
 use std::alloc::{AllocError, Global};
-
-/// The argument, which has to be there.
-pub fn required_argument<'a>(argument: Option<&'a str>) -> Result<&'a str, LineRefusal>
-    ensures { Gives LineRefusal.Memory (λ text. text.now) result
-        (required_argument (option_copied argument.entry)) }
-{
-    argument.ok_or(LineRefusal::Argument)
-}
 
 /// A text that isn't empty.
 pub fn nonempty_text(text: &str) -> Result<&str, LineRefusal>
@@ -40,21 +30,17 @@ pub fn split_at_space(text: &str) -> Result<(&str, &str), LineRefusal>
     }
 }
 
-/// The number of an entry.
+/// An entry's number: one to six digits, the first not `0`.
 pub fn number_argument(text: &str) -> Result<u32, LineRefusal>
     ensures { Gives LineRefusal.Memory (λ number. number) result (number_argument text.now) }
 {
-    parse_entry_number(text).ok_or(LineRefusal::Argument)
-}
-
-/// An entry's number: one to six digits, the first not `0`.
-fn parse_entry_number(id: &str) -> Option<u32>
-    ensures { result ≡ entry_number id.now }
-{
-    if !is_entry_number(id.as_bytes()) {
-        return None;
+    if !is_entry_number(text.as_bytes()) {
+        return Err(LineRefusal::Argument);
     }
-    id.parse().ok()
+    match text.parse() {
+        Ok(number) => Ok(number),
+        Err(_) => Err(LineRefusal::Argument),
+    }
 }
 
 fn is_entry_number(digits: &[u8]) -> bool
@@ -66,19 +52,8 @@ fn is_entry_number(digits: &[u8]) -> bool
     *first != b'0' && digits.len() <= 6 && are_digits(digits)
 }
 
-/// The pieces of an argument between its spaces, without the empty ones; none where it is absent.
-pub fn pieces_of<'a>(alloc: Global, argument: Option<&'a str>) -> Result<Vec<&'a str>, LineRefusal>
-    ensures { Gives LineRefusal.Memory (λ texts. map (λ text. text.now) texts.items) result
-        (Ok (pieces_of (option_copied argument.entry))) }
-{
-    match argument {
-        None => Ok(Vec::new(alloc)),
-        Some(text) => pieces(alloc, text),
-    }
-}
-
 /// The pieces of a text between its spaces, without the empty ones.
-fn pieces(alloc: Global, text: &str) -> Result<Vec<&str>, LineRefusal>
+pub fn pieces(alloc: Global, text: &str) -> Result<Vec<&str>, LineRefusal>
     ensures { Gives LineRefusal.Memory (λ texts. map (λ text. text.now) texts.items) result
         (Ok (pieces text.now)) }
 {

@@ -7,9 +7,7 @@ ghost use Rattle.pylock_run.specs.Line.Commands.{edit_after, name_after, policy_
 ghost use Rattle.pylock_run.specs.Line.Commands.{policy_argument, put_after, set_after, show_after};
 ghost use Rattle.pylock_run.specs.Line.Commands.{tags_after, unset_after, variable_argument};
 
-use crate::line::argument::{
-    nonempty_text, number_argument, pieces_of, required_argument, split_at_space,
-};
+use crate::line::argument::{nonempty_text, number_argument, pieces, split_at_space};
 use crate::line::refusal::LineRefusal;
 use pylock_core::{Edit, Entry, Policy};
 use pymark_core::{Change, Var};
@@ -27,7 +25,8 @@ pub enum Command {
     Edit(Edit),
 }
 
-/// What a command's word and its argument ask for. It takes memory for what the edit holds.
+/// What a command's word and its argument ask for; an edit takes an absent argument as an empty
+/// one. It takes memory for what the edit holds.
 #[tactic(auto, unfolding(crate::specs::Line::Commands::command_after))]
 pub fn read_command(
     alloc: Global,
@@ -40,7 +39,7 @@ pub fn read_command(
     if word == "show" {
         return read_show(argument);
     }
-    let edit = read_edit(alloc, word, argument)?;
+    let edit = read_edit(alloc, word, argument.unwrap_or(""))?;
     Ok(Command::Edit(edit))
 }
 
@@ -54,9 +53,8 @@ fn read_show(argument: Option<&str>) -> Result<Command, LineRefusal>
 }
 
 #[tactic(auto, unfolding(crate::specs::Line::Commands::edit_after))]
-fn read_edit(alloc: Global, word: &str, argument: Option<&str>) -> Result<Edit, LineRefusal>
-    ensures { Gives LineRefusal.Memory (λ e. e) result
-        (edit_after word.now (option_copied argument.entry)) }
+fn read_edit(alloc: Global, word: &str, argument: &str) -> Result<Edit, LineRefusal>
+    ensures { Gives LineRefusal.Memory (λ e. e) result (edit_after word.now argument.now) }
 {
     match word {
         "tags" => read_tags(alloc, argument),
@@ -69,9 +67,8 @@ fn read_edit(alloc: Global, word: &str, argument: Option<&str>) -> Result<Edit, 
 }
 
 #[tactic(auto, unfolding(crate::specs::Line::Commands::change_after))]
-fn read_change(alloc: Global, word: &str, argument: Option<&str>) -> Result<Change, LineRefusal>
-    ensures { Gives LineRefusal.Memory (λ c. c) result
-        (change_after word.now (option_copied argument.entry)) }
+fn read_change(alloc: Global, word: &str, argument: &str) -> Result<Change, LineRefusal>
+    ensures { Gives LineRefusal.Memory (λ c. c) result (change_after word.now argument.now) }
 {
     match word {
         "set" => read_set(alloc, argument),
@@ -85,34 +82,28 @@ fn read_change(alloc: Global, word: &str, argument: Option<&str>) -> Result<Chan
 }
 
 #[tactic(auto, unfolding(crate::specs::Line::Commands::set_after))]
-fn read_set(alloc: Global, argument: Option<&str>) -> Result<Change, LineRefusal>
-    ensures { Gives LineRefusal.Memory (λ c. c) result (set_after (option_copied argument.entry)) }
+fn read_set(alloc: Global, argument: &str) -> Result<Change, LineRefusal>
+    ensures { Gives LineRefusal.Memory (λ c. c) result (set_after argument.now) }
 {
-    let (name, value) = split_at_space(required_argument(argument)?)?;
+    let (name, value) = split_at_space(argument)?;
     let variable = variable_argument(name)?;
     Ok(Change::Set(variable, Text::copy_of(alloc, value)?))
 }
 
 #[tactic(auto, unfolding(crate::specs::Line::Commands::unset_after))]
-fn read_unset(argument: Option<&str>) -> Result<Change, LineRefusal>
-    ensures { Gives LineRefusal.Memory (λ c. c) result
-        (unset_after (option_copied argument.entry)) }
+fn read_unset(argument: &str) -> Result<Change, LineRefusal>
+    ensures { Gives LineRefusal.Memory (λ c. c) result (unset_after argument.now) }
 {
-    let variable = variable_argument(nonempty_text(required_argument(argument)?)?)?;
+    let variable = variable_argument(nonempty_text(argument)?)?;
     Ok(Change::Unset(variable))
 }
 
 /// The argument, which has to be a name.
 #[tactic(auto, unfolding(crate::specs::Line::Commands::name_after))]
-fn read_name(
-    alloc: Global,
-    unknown: LineRefusal,
-    argument: Option<&str>,
-) -> Result<NormalName, LineRefusal>
-    ensures { Gives LineRefusal.Memory (λ name. name) result
-        (name_after unknown (option_copied argument.entry)) }
+fn read_name(alloc: Global, unknown: LineRefusal, argument: &str) -> Result<NormalName, LineRefusal>
+    ensures { Gives LineRefusal.Memory (λ name. name) result (name_after unknown argument.now) }
 {
-    let text = nonempty_text(required_argument(argument)?)?;
+    let text = nonempty_text(argument)?;
     if !is_name(text) {
         return Err(unknown);
     }
@@ -120,45 +111,44 @@ fn read_name(
 }
 
 #[tactic(auto, unfolding(crate::specs::Line::Commands::tags_after))]
-fn read_tags(alloc: Global, argument: Option<&str>) -> Result<Edit, LineRefusal>
-    ensures { Gives LineRefusal.Memory (λ e. e) result (tags_after (option_copied argument.entry)) }
+fn read_tags(alloc: Global, argument: &str) -> Result<Edit, LineRefusal>
+    ensures { Gives LineRefusal.Memory (λ e. e) result (tags_after argument.now) }
 {
-    let texts = pieces_of(alloc, argument)?;
+    let texts = pieces(alloc, argument)?;
     Ok(Edit::Tags(TagList::parse(alloc, &texts)?))
 }
 
 #[tactic(auto, unfolding(crate::specs::Line::Commands::add_after))]
-fn read_add(alloc: Global, argument: Option<&str>) -> Result<Edit, LineRefusal>
-    ensures { Gives LineRefusal.Memory (λ e. e) result (add_after (option_copied argument.entry)) }
+fn read_add(alloc: Global, argument: &str) -> Result<Edit, LineRefusal>
+    ensures { Gives LineRefusal.Memory (λ e. e) result (add_after argument.now) }
 {
-    let text = nonempty_text(required_argument(argument)?)?;
+    let text = nonempty_text(argument)?;
     Ok(Edit::Add(Entry::read_text(alloc, text)?))
 }
 
 #[tactic(auto, unfolding(crate::specs::Line::Commands::put_after))]
-fn read_put(alloc: Global, argument: Option<&str>) -> Result<Edit, LineRefusal>
-    ensures { Gives LineRefusal.Memory (λ e. e) result (put_after (option_copied argument.entry)) }
+fn read_put(alloc: Global, argument: &str) -> Result<Edit, LineRefusal>
+    ensures { Gives LineRefusal.Memory (λ e. e) result (put_after argument.now) }
 {
-    let (id, text) = split_at_space(required_argument(argument)?)?;
+    let (id, text) = split_at_space(argument)?;
     let number = number_argument(id)?;
     let text = nonempty_text(text)?;
     Ok(Edit::Put(number, Entry::read_text(alloc, text)?))
 }
 
 #[tactic(auto, unfolding(crate::specs::Line::Commands::del_after))]
-fn read_del(argument: Option<&str>) -> Result<Edit, LineRefusal>
-    ensures { Gives LineRefusal.Memory (λ e. e) result (del_after (option_copied argument.entry)) }
+fn read_del(argument: &str) -> Result<Edit, LineRefusal>
+    ensures { Gives LineRefusal.Memory (λ e. e) result (del_after argument.now) }
 {
-    let number = number_argument(required_argument(argument)?)?;
+    let number = number_argument(argument)?;
     Ok(Edit::Del(number))
 }
 
 #[tactic(auto, unfolding(crate::specs::Line::Commands::policy_after))]
-fn read_policy(alloc: Global, argument: Option<&str>) -> Result<Edit, LineRefusal>
-    ensures { Gives LineRefusal.Memory (λ e. e) result
-        (policy_after (option_copied argument.entry)) }
+fn read_policy(alloc: Global, argument: &str) -> Result<Edit, LineRefusal>
+    ensures { Gives LineRefusal.Memory (λ e. e) result (policy_after argument.now) }
 {
-    let (name, word) = split_at_space(required_argument(argument)?)?;
+    let (name, word) = split_at_space(argument)?;
     let policy = policy_argument(word)?;
     if !is_name(name) {
         return Err(LineRefusal::Name);

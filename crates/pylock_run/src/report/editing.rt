@@ -1,11 +1,9 @@
 //! The editing of a session by the bytes of the input, in whatever pieces they come.
 
 ghost use Rattle.std.specs.Prelude.{◌≡◌, ◌++◌, ◌<◌, ◌≤◌, ◌+◌, not, ◌&&◌, if◌then◌else◌, length};
-ghost use Rattle.std.specs.Prelude.{take, Ok, Err, OnOk, IfOk, IfErr, OnErr};
+ghost use Rattle.std.specs.Prelude.{take, OnOk, IfOk, IfErr, OnErr};
 ghost use Rattle.pylock_core.specs.Session.Steps.{answer};
-ghost use Rattle.std.specs.List.{position};
 ghost use Rattle.pytext.specs.Agreement.{Gives};
-ghost use Rattle.pylock_run.specs.Line.{is_lf};
 ghost use Rattle.pylock_run.specs.Report.{is_plan, after_line};
 ghost use Rattle.pylock_run.specs.Report.Run.{most_lines};
 ghost use Rattle.pylock_run.specs.Inner.Editing.{start, kept_part, end_line, end_text};
@@ -131,7 +129,7 @@ impl Editing {
         if self.complete == LINES {
             return Err(RunFault::Input);
         }
-        match line_end(bytes) {
+        match memchr(b'\n', bytes) {
             Some(position) => {
                 self.keep_bytes(&bytes[..position])?;
                 self.end_line(printing, out)?;
@@ -232,11 +230,4 @@ fn push_standing_answer<P: Printing>(
     let answer = session.answer()?;
     printing.push_answer(out, session, &answer)?;
     Ok(matches!(answer, Answer::Plan(_)))
-}
-
-/// Where the first LF stands.
-fn line_end(bytes: &[u8]) -> Option<usize>
-    ensures { result ≡ position is_lf bytes.now }
-{
-    memchr(b'\n', bytes)
 }

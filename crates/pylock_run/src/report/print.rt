@@ -5,8 +5,7 @@ ghost use Rattle.pylock_run.specs.Report.Print.{Prints};
 ghost use Rattle.pylock_run.specs.declared.report.fault.RunFault.TheVariants.{Write};
 
 use crate::report::fault::RunFault;
-use crate::stream::writer::write_all;
-use crate::stream::{IoFault, Sink};
+use crate::stream::{IoFault, Sink, write_all};
 
 /// Writes the text of a report, and answers its status. It takes no memory.
 pub fn print<W: Sink>(text: &[u8], status: u8, writer: &mut W) -> Result<u8, RunFault>

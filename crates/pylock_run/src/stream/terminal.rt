@@ -1,15 +1,14 @@
 //! A sink to a terminal, which is given no character that steers it.
 
-ghost use Rattle.std.specs.Prelude.{◌≡◌, ◌++◌, None, length, IfOk, IfSome, OnOk, OnErr, IfNone};
+ghost use Rattle.std.specs.Prelude.{◌≡◌, ◌<◌, ◌++◌, None, length, IfOk, IfSome, OnOk, OnErr};
+ghost use Rattle.std.specs.Prelude.{IfNone};
 ghost use Rattle.std.specs.Str.Lossy.{utf8_lossy};
 ghost use Rattle.pylock_shown.specs.Visible.{control_text};
-ghost use Rattle.pylock_run.specs.Inner.AroundControl.{AroundControl};
 ghost use Rattle.pylock_run.specs.Inner.Writes.{Writes};
 ghost use Rattle.pylock_run.specs.Stream.{TakesPrefix, one_more};
 ghost use Rattle.pylock_run.specs.Stream.Terminal.{steers_terminal, terminal_text};
 
-use crate::stream::writer::write_all;
-use crate::stream::{IoFault, Sink};
+use crate::stream::{IoFault, Sink, write_all};
 use pylock_shown::{is_control, push_control};
 use std::alloc::Global;
 use std::str::from_utf8;
@@ -116,11 +115,12 @@ fn write_part<S: Sink>(
     write_all(sink, &number)
 }
 
-/// What stands before the first character that steers a terminal, the character, and what stands
-/// behind it.
+/// What stands before the first character that steers a terminal, which is given as it is, the
+/// character, which is given as its number, and what stands behind it.
 fn around_control(text: &str) -> Option<(&str, char, &str)>
-    ensures parts { IfSome result (λ parts.
-        AroundControl text.now parts.0.now parts.1 parts.2.now) }
+    ensures parts { IfSome result (λ parts. terminal_text text.now
+        ≡ (parts.0.now ++ control_text parts.1) ++ terminal_text parts.2.now) }
+    ensures less { IfSome result (λ parts. length parts.2.now < length text.now) }
     ensures plain { IfNone result (terminal_text text.now ≡ text.now) }
 {
     let mut characters = text.chars();

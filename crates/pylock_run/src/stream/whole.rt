@@ -76,22 +76,6 @@ fn read_piece<R: Source>(
     Ok(true)
 }
 
-fn read_pieces<R: Source>(
-    alloc: Global,
-    reader: &mut R,
-    buffer: &mut [u8],
-    limit: u64,
-) -> Result<Vec<u8>, FileFault>
-    requires { 0 < length buffer.old }
-    ensures all { IfOk result (λ bytes. GivesAll limit (R.value reader.old) (R.value reader.new)
-        bytes.items) }
-    ensures fault { IfErr result (IsCause limit (R.value reader.old) (R.value reader.new)) }
-{
-    let mut bytes = Vec::new(alloc);
-    'pieces: while read_piece(reader, buffer, &mut bytes, limit)? {}
-    Ok(bytes)
-}
-
 /// All bytes up to the end of `input`, of which there may be `limit`. What is met first, a read
 /// that fails or a byte past the limit, is the fault; what was given before it is lost.
 ///
@@ -101,6 +85,9 @@ pub fn read_whole<R: Source>(alloc: Global, input: &mut R, limit: u64) -> Result
         bytes.items) }
     ensures fault { IfErr result (IsCause limit (R.value input.old) (R.value input.new)) }
 {
-    let mut buffer = piece_buffer(alloc)?;
-    read_pieces(alloc, input, &mut buffer, limit)
+    let mut piece = piece_buffer(alloc)?;
+    let buffer = piece.as_mut_slice();
+    let mut bytes = Vec::new(alloc);
+    'pieces: while read_piece(input, buffer, &mut bytes, limit)? {}
+    Ok(bytes)
 }

@@ -3,7 +3,7 @@
 ghost use Rattle.std.specs.Prelude.{◌≡◌, ◌++◌, ◌∷◌, ◌<◌, ◌≤◌, [], OnOk, IsTrue, decimal, true};
 ghost use Rattle.std.specs.List.{list_all};
 ghost use Rattle.std.specs.Option.{option_copied};
-ghost use Rattle.pylock_run.specs.Inner.OrdinaryBytes.{is_ordinary};
+ghost use Rattle.pylock_run.specs.Inner.Fields.{is_ordinary};
 ghost use Rattle.pylock_run.specs.Text.Field.{escape_byte, escaped_text, field, line_of};
 
 use itoa::Buffer;
@@ -118,8 +118,13 @@ fn push_escaped_byte(out: &mut Vec<u8>, byte: u8) -> Result<(), AllocError>
 pub fn push_next_field(out: &mut Vec<u8>, text: Option<&str>) -> Result<(), AllocError>
     ensures { OnOk result (out.new.items ≡ out.old.items ++ 9 ∷ field (option_copied text.entry)) }
 {
-    out.push(b'\t')?;
-    push_field(out, text)
+    match text {
+        None => out.extend_from_slice(b"\t-"),
+        Some(_) => {
+            out.push(b'\t')?;
+            push_field(out, text)
+        }
+    }
 }
 
 /// Pushes a TAB, a word and the LF of its line.

@@ -5,14 +5,14 @@
 //! The room of the line is made at once, its texts are put in their places with `-` between them,
 //! all of them are tested in one look, and then the marks of a line stand in place of each `-`.
 
-ghost use Rattle.std.specs.Prelude.{◌≡◌, ◌++◌, ◌∷◌, ◌+◌, ◌<◌, ◌≤◌, length, take, drop, false, true};
+ghost use Rattle.std.specs.Prelude.{◌≡◌, ◌++◌, ◌∷◌, ◌+◌, ◌≤◌, length, take, drop, false, true};
 ghost use Rattle.std.specs.Prelude.{IfSome, IfOk, IsTrue};
 ghost use Rattle.std.specs.List.{list_all};
 ghost use Rattle.std.specs.Option.{option_copied};
 ghost use Rattle.pylock_readers.specs.Text.{text_pairs};
 ghost use Rattle.pylock_run.specs.Inner.FileLine.{file_fields, file_line, file_line_size};
 ghost use Rattle.pylock_run.specs.Inner.FileLine.{AreOrdinary, AreShort, StandIn, joined_texts};
-ghost use Rattle.pylock_run.specs.Inner.OrdinaryBytes.{is_ordinary};
+ghost use Rattle.pylock_run.specs.Inner.Fields.{is_ordinary};
 ghost use Rattle.pylock_run.specs.Text.Field.{escaped_text, field};
 ghost use Rattle.pylock_run.specs.Text.Plan.{hashes_text, source_line};
 

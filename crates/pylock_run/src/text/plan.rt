@@ -1,22 +1,20 @@
 //! Answers: the lines of a plan, or a fault.
 
-ghost use Rattle.std.specs.Prelude.{◌≡◌, ◌++◌, ◌∷◌, [], Some, OnOk, option_map, string_bytes};
+ghost use Rattle.std.specs.Prelude.{◌≡◌, ◌++◌, ◌∷◌, [], OnOk, option_map, string_bytes};
 ghost use Rattle.std.specs.List.{flat_map};
-ghost use Rattle.std.specs.Option.{option_map_or};
+ghost use Rattle.std.specs.Option.{option_copied, option_map_or};
 ghost use Rattle.pylock_readers.specs.Text.{text_pairs};
-ghost use Rattle.pylock_core.specs.Session.Picks.{OfArchive, OfDirectory, OfVcs, lent_source};
-ghost use Rattle.pylock_run.specs.Inner.FileLine.{file_fields};
-ghost use Rattle.pylock_run.specs.Inner.Hashes.{escaped_hash, more_hashes};
+ghost use Rattle.pylock_core.specs.Session.Picks.{lent_source};
+ghost use Rattle.pylock_run.specs.Inner.Fields.{escaped_hash, more_hashes};
 ghost use Rattle.pylock_run.specs.Text.Field.{field, fields_text};
 ghost use Rattle.pylock_run.specs.Text.Plan.{answer_text, hashes_text, pick_text, revision};
 ghost use Rattle.pylock_run.specs.Text.Plan.{source_fields, source_line};
 
-use crate::text::field::{push_decimal, push_escaped_text, push_last_word, push_next_field};
-use crate::text::file_line::push_file_line;
-use pylock_core::{
-    Answer, Archive, Directory, DistributionFile, Entry, Pick, PickedSource, Session, Vcs,
-    directory_word, fault_word,
+use crate::text::field::{
+    push_decimal, push_escaped_text, push_last_word, push_next_field, push_word,
 };
+use crate::text::file_line::push_file_line;
+use pylock_core::{Answer, Entry, Pick, PickedSource, Session, Vcs, fault_word};
 use std::alloc::AllocError;
 
 fn push_hash(out: &mut Vec<u8>, hash: &(String, String)) -> Result<(), AllocError>
@@ -52,63 +50,19 @@ fn push_more_hashes(out: &mut Vec<u8>, hashes: &[(String, String)]) -> Result<()
     Ok(())
 }
 
-/// Pushes a TAB and the field of the revision.
+/// Pushes a TAB and the field of the revision, which a checkout has.
 #[tactic(auto, using(crate::proofs::TextLemmas::field_revision))]
-fn push_revision(out: &mut Vec<u8>, vcs: &Vcs) -> Result<(), AllocError>
-    ensures { OnOk result (out.new.items ≡ out.old.items ++ 9 ∷ field (Some (revision vcs.now))) }
+fn push_revision(out: &mut Vec<u8>, vcs: Option<&Vcs>) -> Result<(), AllocError>
+    ensures { OnOk result (out.new.items
+        ≡ out.old.items ++ 9 ∷ field (option_map revision (option_copied vcs.entry))) }
 {
+    let Some(vcs) = vcs else {
+        return push_next_field(out, None);
+    };
     out.push(b'\t')?;
     push_escaped_text(out, vcs.kind())?;
     out.push(b'@')?;
     push_escaped_text(out, vcs.commit_id())
-}
-
-fn push_vcs(out: &mut Vec<u8>, vcs: &Vcs) -> Result<(), AllocError>
-    ensures { OnOk result (out.new.items
-        ≡ out.old.items ++ fields_text (source_fields (OfVcs vcs.now))) }
-{
-    out.extend_from_slice(b"\tvcs\t-")?;
-    push_next_field(out, Some(vcs.place()))?;
-    out.extend_from_slice(b"\t-")?;
-    push_revision(out, vcs)?;
-    push_next_field(out, vcs.subdirectory())
-}
-
-fn push_directory(out: &mut Vec<u8>, directory: &Directory) -> Result<(), AllocError>
-    ensures { OnOk result (out.new.items
-        ≡ out.old.items ++ fields_text (source_fields (OfDirectory directory.now))) }
-{
-    out.push(b'\t')?;
-    out.extend_from_slice(directory_word(directory).as_bytes())?;
-    out.extend_from_slice(b"\t-")?;
-    push_next_field(out, Some(directory.place()))?;
-    out.extend_from_slice(b"\t-\t-")?;
-    push_next_field(out, directory.subdirectory())
-}
-
-fn push_archive(out: &mut Vec<u8>, archive: &Archive) -> Result<(), AllocError>
-    ensures { OnOk result (out.new.items
-        ≡ out.old.items ++ fields_text (source_fields (OfArchive archive.now))) }
-{
-    out.extend_from_slice(b"\tarchive\t-")?;
-    push_next_field(out, Some(archive.place()))?;
-    push_hashes(out, archive.hashes())?;
-    out.extend_from_slice(b"\t-")?;
-    push_next_field(out, archive.subdirectory())
-}
-
-/// Pushes the fields of a wheel or of an sdist.
-fn push_file(out: &mut Vec<u8>, kind: &[u8], file: &DistributionFile) -> Result<(), AllocError>
-    ensures { OnOk result (out.new.items
-        ≡ out.old.items ++ fields_text (file_fields kind.now file.now)) }
-{
-    out.push(b'\t')?;
-    out.extend_from_slice(kind)?;
-    push_next_field(out, file.file_name())?;
-    push_next_field(out, Some(file.place()))?;
-    push_hashes(out, file.hashes())?;
-    out.extend_from_slice(b"\t-\t-")?;
-    Ok(())
 }
 
 /// Pushes the fields of a source, which stands in its entry and so is never left out.
@@ -116,14 +70,15 @@ fn push_source(out: &mut Vec<u8>, source: Option<PickedSource<'_>>) -> Result<()
     ensures { OnOk result (out.new.items ≡ out.old.items
         ++ fields_text (option_map_or source_fields (option_map lent_source source.entry) [])) }
 {
-    match source {
-        Some(PickedSource::Vcs(vcs)) => push_vcs(out, vcs),
-        Some(PickedSource::Directory(directory)) => push_directory(out, directory),
-        Some(PickedSource::Archive(archive)) => push_archive(out, archive),
-        Some(PickedSource::Wheel(wheel)) => push_file(out, b"wheel", wheel),
-        Some(PickedSource::Sdist(sdist)) => push_file(out, b"sdist", sdist),
-        None => Ok(()),
-    }
+    let Some(source) = source else {
+        return Ok(());
+    };
+    push_word(out, source.word().as_bytes())?;
+    push_next_field(out, source.file_name())?;
+    push_next_field(out, Some(source.place()))?;
+    push_hashes(out, source.hashes())?;
+    push_revision(out, source.vcs())?;
+    push_next_field(out, source.subdirectory())
 }
 
 /// Pushes the line of a source of an entry, which has this number: at once where it is that of a

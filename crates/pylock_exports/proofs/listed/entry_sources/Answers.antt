@@ -1,6 +1,6 @@
 use Rattle.std.proofs.Common.{◌∙◌, ◌++◌, ◌+◌, ap, append_assoc, drop, map, sym}
 use Rattle.pylock_core.specs.Session.Picks.{sources}
-use Rattle.pylock_exports.specs.Inner.Lent.{all_lent}
+use Rattle.pylock_exports.specs.Inner.{all_lent}
 use Rattle.pylock_exports.specs.Listed.{listed, sources_from}
 use Rattle.pylock_exports.proofs.NextLemmas.{next}
 use Rattle.pylock_exports.proofs.listed.entry_sources.Goals as goal

@@ -1,5 +1,5 @@
 use Rattle.std.proofs.Common.{◌≡◌, ◌+◌, ◌++◌, drop}
-use Rattle.pylock_exports.specs.Inner.Lent.{all_lent}
+use Rattle.pylock_exports.specs.Inner.{all_lent}
 use Rattle.pylock_exports.specs.Listed.{sources_from}
 use Rattle.pylock_exports.proofs.listed.entry_sources.Given as goal
 

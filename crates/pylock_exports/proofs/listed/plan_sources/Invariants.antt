@@ -1,5 +1,5 @@
 use Rattle.std.proofs.Common.{◌≡◌, flat_map, take}
-use Rattle.pylock_exports.specs.Inner.Lent.{all_lent}
+use Rattle.pylock_exports.specs.Inner.{all_lent}
 use Rattle.pylock_exports.specs.Listed.{picked_source}
 use Rattle.pylock_exports.proofs.listed.plan_sources.Given as goal
 

@@ -1,6 +1,6 @@
 use Rattle.std.proofs.Common.{◌≡◌, ◌++◌, map, take}
 use Rattle.pylock_core.specs.Session.Picks.{lent_named}
-use Rattle.pylock_exports.specs.Inner.Lent.{all_lent}
+use Rattle.pylock_exports.specs.Inner.{all_lent}
 use Rattle.pylock_exports.specs.Listed.{listed}
 use Rattle.pylock_exports.proofs.listed.push_named.Given as goal
 

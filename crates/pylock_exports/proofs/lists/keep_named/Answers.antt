@@ -1,23 +1,21 @@
-use Rattle.std.proofs.Common.{◌≡◌, ◌∙◌, ◌++◌, ◌∷◌, [], None, Ok, Some, ap, option_copied, option_map, rules, string_bytes, subst, sym, false, true}
+use Rattle.std.proofs.Common.{[], ◌≡◌, ◌∙◌, ◌++◌, ◌∷◌, None, Ok, Some, ap, option_copied, option_map, rules, string_bytes, subst, sym}
 use Rattle.std.proofs.lemmas.List.{map-append}
 use Rattle.std.proofs.lemmas.Map.Text.{btree_map_updates_text}
 use Rattle.std.specs.BTreeMap.{get_by_text}
-use Rattle.std.specs.Str.{bytes_eq}
 use denote.Ref.{Bor}
 use Rattle.std.specs.Prelude.{ℕ, List}
-use Rattle.pylock_exports.specs.Inner.Kept.{Holds}
-use Rattle.pylock_exports.specs.Inner.Lent.{all_lent, lent}
-use Rattle.pylock_exports.specs.Lists.{key_of, list_check, value_named, value_of}
-use Rattle.pylock_exports.specs.Refusals.{at_number}
-use Rattle.pylock_exports.proofs.KeptLemmas.{holds_more, kept_other, kept_same}
+use Rattle.pylock_exports.specs.Inner.{all_lent, Holds, lent}
+use Rattle.pylock_exports.specs.Lists.{key_of, list_check, value_named}
+use Rattle.pylock_exports.specs.Parts.{at_number}
+use Rattle.pylock_exports.proofs.KeptLemmas.{holds_more, kept_again}
 use Rattle.pylock_exports.proofs.lists.keep_named.Goals as goal
 
 -- what is found under the key
 abbrev shown : Bor (List ℕ) → List ℕ
 shown value = value.now
 
-pub returns-in-None-clause-holds : goal.returns-in-None-clause-holds
-returns-in-None-clause-holds c =
+pub returns-in_ok-push-in-None-clause-holds : goal.returns-in_ok-push-in-None-clause-holds
+returns-in_ok-push-in-None-clause-holds c =
     let kept = all_lent c.args.kept.now.items in
     let updated = btree_map_updates_text (string_bytes c.args.key) c.args.values.now c.insert.new.self _ c.in_ok-insert-in-None.ensures.updates in
     let items : c.push.new.self.items ≡ c.args.kept.now.items ++ c.args.listed.now ∷ [] = search rules in
@@ -34,20 +32,7 @@ returns-in-Some-clause-kept c =
     let s = lent c.args.listed.now in
     let kept = all_lent c.args.kept.now.items in
     let taken : at_number s.number (list_check c.args.format s.source) ≡ Ok tt = search rules in
-    let same : bytes_eq c.in-Some.known.now.now (value_of c.args.format s.source) ≡ true = search rules in
     let named : value_named c.args.format (key_of c.args.format s.source) kept ≡ Some c.in-Some.known.now.now =
     ap (λ key. value_named c.args.format key kept) (sym (c.as_str-2.ensures.value ∙ c.requires.named)) ∙ sym (c.requires.holds c.as_str-2.result.now)
     ∙ ap (option_map shown) (sym c.get.ensures.value ∙ ap option_copied c.in-Some.is) in
-    kept_same c.args.format kept s c.in-Some.known.now.now c.requires.held taken named same
-
-pub returns-clause-kept : goal.returns-clause-kept
-returns-clause-kept c =
-    let s = lent c.args.listed.now in
-    let kept = all_lent c.args.kept.now.items in
-    let taken : at_number s.number (list_check c.args.format s.source) ≡ Ok tt = search rules in
-    let other : bytes_eq c.in-Some.known.now.now (value_of c.args.format s.source) ≡ false = search rules in
-    let named : value_named c.args.format (key_of c.args.format s.source) kept ≡ Some c.in-Some.known.now.now =
-    ap (λ key. value_named c.args.format key kept) (sym (c.as_str-2.ensures.value ∙ c.requires.named)) ∙ sym (c.requires.holds c.as_str-2.result.now)
-    ∙ ap (option_map shown) (sym c.get.ensures.value ∙ ap option_copied c.in-Some.is) in
-    let refused = kept_other c.args.format kept s c.in-Some.known.now.now c.requires.held taken named other in
-    λ _. search (rules, refused)
+    kept_again c.args.format kept s c.in-Some.known.now.now c.at_number.result c.requires.held taken named (search rules)

@@ -1,7 +1,6 @@
 use Rattle.std.proofs.Common.{◌≡◌, [], drop}
 use Rattle.std.specs.BTreeMap.{get_by_text}
-use Rattle.pylock_exports.specs.Inner.Kept.{Holds}
-use Rattle.pylock_exports.specs.Inner.Lent.{all_lent}
+use Rattle.pylock_exports.specs.Inner.{all_lent, Holds}
 use Rattle.pylock_exports.specs.Lists.{with_sources}
 use Rattle.pylock_exports.proofs.lists.kept_sources.Given as goal
 

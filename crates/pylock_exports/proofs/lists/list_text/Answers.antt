@@ -1,5 +1,5 @@
 use Rattle.std.proofs.Common.{◌≡◌, ◌∙◌, [], Ok, ap, flat_map, rules, string_bytes, sym}
-use Rattle.pylock_exports.specs.Inner.Lent.{all_lent}
+use Rattle.pylock_exports.specs.Inner.{all_lent}
 use Rattle.pylock_exports.specs.Lists.{source_lines, with_sources}
 use Rattle.pylock_exports.specs.Texts.{lines_text}
 use Rattle.pylock_exports.proofs.TextLemmas.{lines_each}

@@ -1,5 +1,5 @@
 use Rattle.std.proofs.Common.{◌≡◌, ◌++◌, flat_map, string_bytes, take}
-use Rattle.pylock_exports.specs.Inner.Lent.{all_lent}
+use Rattle.pylock_exports.specs.Inner.{all_lent}
 use Rattle.pylock_exports.specs.Lists.{source_lines}
 use Rattle.pylock_exports.specs.Texts.{lines_text}
 use Rattle.pylock_exports.proofs.lists.push_kept.Given as goal

@@ -1,6 +1,5 @@
 use Rattle.std.proofs.Common.{◌≡◌, codes, drop, string_bytes}
-use Rattle.pylock_exports.specs.Inner.Behind.{parts_behind}
-use Rattle.pylock_exports.specs.Inner.Lent.{all_lent}
+use Rattle.pylock_exports.specs.Inner.{all_lent, parts_behind}
 use Rattle.pylock_exports.proofs.requirements.requirements_text.Given as goal
 
 -- the text so far, and behind it the lines of what is left

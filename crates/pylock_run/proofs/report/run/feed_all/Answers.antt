@@ -1,5 +1,5 @@
 use Rattle.std.proofs.lemmas.Result.{err_from_is_err_and}
-use Rattle.pylock_run.proofs.RunLemmas.{Edited-more, EditFault-after, EditsAll-from}
+use Rattle.pylock_run.proofs.RunLemmas.{Edited-more, EditFault-after}
 use Rattle.pylock_run.proofs.report.run.feed_all.Goals as goal
 
 pub returns-in_err-feed_next-clause-fault : goal.returns-in_err-feed_next-clause-fault
@@ -19,4 +19,4 @@ pieces-preserved g c =
 pub returns-clause-edited : goal.returns-clause-edited
 returns-clause-edited g c =
     let after = c.in_ok-feed_next.ensures in
-    EditsAll-from _ _ _ _ _ _ _ _ (Edited-more _ _ _ _ _ _ _ _ _ _ _ _ _ c.pieces.invariant.edited after.edited) after.within
+    (_, Edited-more _ _ _ _ _ _ _ _ _ _ _ _ _ c.pieces.invariant.edited after.edited, after.within)

@@ -1,7 +1,7 @@
 use Rattle.std.proofs.Common.{◌≡◌, ◌∙◌, ℕ, ◌-◌, ap, sym, subst, take, arith}
 use Rattle.std.specs.Str.{IsUtf8}
 use Rattle.std.proofs.lemmas.Str.{IsUtf8-past_char}
-use Rattle.pylock_run.proofs.TerminalLemmas.{Plain, Plain-none, Plain-more, Plain-all, Plain-found, Plain-boundary}
+use Rattle.pylock_run.proofs.TerminalLemmas.{Plain, Plain-none, Plain-more, Plain-all, Plain-found, Plain-less, Plain-boundary}
 use Rattle.pylock_run.proofs.stream.terminal.around_control.Goals as goal
 
 less_none : (n : ℕ) → n - 0 ≡ n
@@ -22,6 +22,9 @@ pub returns-then-steers_terminal-clause-parts : goal.returns-then-steers_termina
 returns-then-steers_terminal-clause-parts c =
     rw c.as_str.ensures
     (Plain-found _ _ _ _ _ _ c.characters.invariant.plain c.characters.invariant.utf8 c.in-Some.ensures.steps.0 (sym c.if-steers_terminal.ensures) (c.range.ensures.value ∙ ap (λ m. take m c.args.text.now) (less_none c.characters.plain)))
+
+pub returns-then-steers_terminal-clause-less : goal.returns-then-steers_terminal-clause-less
+returns-then-steers_terminal-clause-less c = rw c.as_str.ensures (Plain-less _ _ _ _ _ c.characters.invariant.plain c.in-Some.ensures.steps.0)
 
 pub characters-preserved : goal.characters-preserved
 characters-preserved c = record {

@@ -1,7 +1,7 @@
 use Rattle.std.proofs.Common.{◌≡◌, true, sym, ◌∙◌, subst}
 use Rattle.std.proofs.lemmas.List.{take_all}
 use Rattle.std.specs.List.{list_all}
-use Rattle.pylock_run.specs.Inner.OrdinaryBytes.{is_ordinary}
+use Rattle.pylock_run.specs.Inner.Fields.{is_ordinary}
 use Rattle.pylock_run.proofs.OrdinaryBytesLemmas.{all_by_chunks, all_by_last}
 use Rattle.pylock_run.proofs.text.field.are_ordinary_chunks.Goals as goal
 

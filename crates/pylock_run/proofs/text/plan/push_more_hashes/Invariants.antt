@@ -1,6 +1,6 @@
 use Rattle.std.proofs.Common.{◌≡◌, ◌++◌, take}
 use Rattle.pylock_readers.specs.Text.{text_pairs}
-use Rattle.pylock_run.specs.Inner.Hashes.{more_hashes}
+use Rattle.pylock_run.specs.Inner.Fields.{more_hashes}
 use Rattle.pylock_run.proofs.text.plan.push_more_hashes.Given as goal
 
 abbrev pub invariant-loop-hash : goal.invariant-loop-hash

@@ -9,23 +9,23 @@ pub returns-in_ok-end_line-in-Some-clause-editing :
 returns-in_ok-end_line-in-Some-clause-editing g c =
     let short : kept_part c.args.self.now.line ≡ c.args.self.now.line = rw (← c.self.view_is) (kept_part-short c.self.inside.line.items (search rules)) in
     c.in_ok-end_line-in-Some.ensures.editing ∙ ap (λ a. end_line a) c.in_ok-keep_bytes-in-Some.ensures
-    ∙ sym (line_done c.args.self.now c.args.bytes.now c.in-Some.position (sym c.in-Some.ensures) short)
+    ∙ sym (line_done c.args.self.now c.args.bytes.now c.in-Some.position c.in-Some.ensures short)
 
 pub returns-in_ok-end_line-in-Some-clause-text : goal.returns-in_ok-end_line-in-Some-clause-text
 returns-in_ok-end_line-in-Some-clause-text g c =
     let short : kept_part c.args.self.now.line ≡ c.args.self.now.line = rw (← c.self.view_is) (kept_part-short c.self.inside.line.items (search rules)) in
     c.in_ok-end_line-in-Some.ensures.text
     ∙ ap (λ t. c.args.out.now.items ++ t) (ap (λ a. end_text (g.P.Printing.shown c.args.printing.now) a) c.in_ok-keep_bytes-in-Some.ensures
-    ∙ sym (line_prints (g.P.Printing.shown c.args.printing.now) c.args.self.now c.args.bytes.now c.in-Some.position (sym c.in-Some.ensures) short))
+    ∙ sym (line_prints (g.P.Printing.shown c.args.printing.now) c.args.self.now c.args.bytes.now c.in-Some.position c.in-Some.ensures short))
 
 pub returns-in_ok-keep_bytes-in-None-clause-editing : goal.returns-in_ok-keep_bytes-in-None-clause-editing
 returns-in_ok-keep_bytes-in-None-clause-editing g c =
     let short : kept_part c.args.self.now.line ≡ c.args.self.now.line = rw (← c.self.view_is) (kept_part-short c.self.inside.line.items (search rules)) in
-    c.in_ok-keep_bytes-in-None.ensures ∙ sym (rest_done c.args.self.now c.args.bytes.now (sym c.in-None.ensures) short)
+    c.in_ok-keep_bytes-in-None.ensures ∙ sym (rest_done c.args.self.now c.args.bytes.now c.in-None.ensures short)
     ∙ ap (editing_after c.args.self.now) (sym (take_all (length c.args.bytes.now) c.args.bytes.now (omega arith)))
 
 pub returns-in_ok-keep_bytes-in-None-clause-text : goal.returns-in_ok-keep_bytes-in-None-clause-text
 returns-in_ok-keep_bytes-in-None-clause-text g c =
     sym (ap (λ bs. c.args.out.now.items ++ bytes_text (g.P.Printing.shown c.args.printing.now) c.args.self.now bs) (take_all (length c.args.bytes.now) c.args.bytes.now (omega arith))
-    ∙ ap (λ t. c.args.out.now.items ++ t) (rest_prints (g.P.Printing.shown c.args.printing.now) c.args.self.now c.args.bytes.now (sym c.in-None.ensures))
+    ∙ ap (λ t. c.args.out.now.items ++ t) (rest_prints (g.P.Printing.shown c.args.printing.now) c.args.self.now c.args.bytes.now c.in-None.ensures)
     ∙ append-nil c.args.out.now.items)

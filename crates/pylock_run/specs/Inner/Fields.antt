@@ -1,7 +1,12 @@
--- The field of hashes, in the parts in which it is pushed.
-use Rattle.std.specs.Prelude.{ℕ, ◌++◌, List, ◌∷◌, codes}
+-- The fields of a line, in the parts in which they are pushed.
+use Rattle.std.specs.Prelude.{ℕ, Bool, ◌==◌, ◌&&◌, ◌++◌, not, nat_lt, List, ◌∷◌, codes}
 use Rattle.std.specs.List.{flat_map}
 use Rattle.pylock_run.specs.Text.Field.{escaped_text}
+
+-- a byte that stands in a field as it is by a quick test: neither one of the first fourteen control
+-- characters nor a backslash
+abbrev pub is_ordinary : ℕ → Bool
+is_ordinary b = nat_lt 13 b && not (b == 92)
 
 -- a hash as it stands in its field
 abbrev pub escaped_hash : List ℕ × List ℕ → List ℕ

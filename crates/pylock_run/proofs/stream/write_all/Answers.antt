@@ -1,7 +1,7 @@
 use Rattle.std.proofs.lemmas.List.{take_rest}
 use Rattle.std.proofs.lemmas.Result.{err_from_is_err_and}
 use Rattle.pylock_run.proofs.WriteLemmas.{Wrote-prefix, Wrote-prefix_same, Wrote-more}
-use Rattle.pylock_run.proofs.stream.writer.write_all.Goals as goal
+use Rattle.pylock_run.proofs.stream.write_all.Goals as goal
 
 pub returns-in_err-taken-clause-err : goal.returns-in_err-taken-clause-err
 returns-in_err-taken-clause-err g c =

@@ -1,6 +1,6 @@
 use Rattle.std.proofs.Common.{length, ◌-◌}
 use Rattle.pylock_run.proofs.WriteLemmas.{Wrote}
-use Rattle.pylock_run.proofs.stream.writer.write_all.Given as goal
+use Rattle.pylock_run.proofs.stream.write_all.Given as goal
 
 abbrev pub invariant-loop-done : goal.invariant-loop-done
 invariant-loop-done g l = Wrote (g.W.Sink.value l.initial.writer) (g.W.Sink.value l.writer) l.text l.done
