@@ -3,4 +3,3 @@
 pub(crate) mod entries;
 pub(crate) mod environment;
 pub(crate) mod policies;
-pub(crate) mod tags;

@@ -25,7 +25,7 @@ use Rattle.pylock_core.specs.declared.edit.Policy.{Policy}
 use Rattle.pylock_core.specs.declared.session.parts.Parts.{Parts}
 use Rattle.pylock_core.specs.declared.session.tables.rows.Row.{Row}
 use Rattle.pylock_core.proofs.Lemmas.Tables.Index.{passing, passing_rises, passing_row, with_row}
-use Rattle.pylock_core.proofs.Lemmas.Tables.Rows.{of_rows_and, some_within, of_rows_at, with_rows_length, with_rows_at, with_standings_length, with_standings_at, of_rows_places}
+use Rattle.pylock_core.proofs.Lemmas.Tables.Rows.{of_rows_and, some_within, of_rows_at, with_each_length, with_each_at, of_rows_places, stood_twice}
 use Rattle.pylock_core.proofs.Lemmas.Parts.{NamedAndJudged, session_even}
 
 -- ---- the numbers of the rows that pass
@@ -125,8 +125,8 @@ with_rows_anew parts test environment tags policy rows is =
     let numbers = passing test 1 es in
     let new : ℕ → Option Row = λ k. row_anew environment tags policy (get_or es k None) (get_or rs k None) in
     subst (AreAnew parts test environment tags policy) (sym is) (
-      with_rows_length (map (fresh_row environment tags policy es rs) numbers) rs,
-      λ k within. with_rows_at new numbers rs k within (λ i less. (all_stand test es numbers refl i less).0)
+      with_each_length (λ row old. row) (map (fresh_row environment tags policy es rs) numbers) rs,
+      λ k within. with_each_at (λ row old. row) (λ x r. refl) new numbers rs k within (λ i less. (all_stand test es numbers refl i less).0)
           ∙ ap (λ b. cond b (new k) (get_or rs k None)) (among_passing test (k + 1) 1 k es (omega arith)),
     )
 
@@ -149,8 +149,8 @@ with_standings_anew parts test environment rows s is =
     let numbers = passing test 1 es in
     let new : ℕ → Standing = λ k. standing_of environment (get_or es k None) in
     subst (AreAnew parts test environment parts.tags (policy_at parts.names.policies.items)) (sym is) (
-      with_standings_length (map (fresh_standing environment es) numbers) rs,
-      λ k within. with_standings_at new numbers rs k within (λ i less. (all_stand test es numbers refl i less).0)
+      with_each_length row_stood (map (fresh_standing environment es) numbers) rs,
+      λ k within. with_each_at row_stood stood_twice new numbers rs k within (λ i less. (all_stand test es numbers refl i less).0)
           ∙ ap (λ b. cond b (row_stood (new k) (get_or rs k None)) (get_or rs k None)) (among_passing test (k + 1) 1 k es (omega arith))
           ∙ standing_row parts test environment (get_or es k None) (get_or rs k None)
           (of_rows_at (IsJudged parts.environment parts.tags parts.names.policies.items) es rs k (get_or es k None) (get_or rs k None) s.judged refl refl),

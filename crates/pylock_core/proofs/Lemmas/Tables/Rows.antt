@@ -6,7 +6,7 @@ use Rattle.pylock_core.specs.Inner.Parts.{OfBoth, OfRows}
 use Rattle.pylock_core.specs.Inner.Answering.Steps.{NamesBelow, has_number}
 use Rattle.pylock_core.specs.declared.session.tables.rows.Row.{Row}
 use Rattle.std.proofs.lemmas.Bool.{eqb-true, eqb-false}
-use Rattle.pylock_core.specs.Inner.Tables.Rows.{row_stood, with_standings, with_rows}
+use Rattle.pylock_core.specs.Inner.Tables.Rows.{row_stood, with_each}
 use Rattle.pylock_core.specs.Session.Steps.{standing}
 use Rattle.pylock_core.specs.declared.answer.Standing.{Standing}
 use Rattle.pylock_core.specs.Session.State.{in_rows}
@@ -71,75 +71,45 @@ of_rows_at P (x ∷ es) [] k e r h entry row = absurd h
 of_rows_at P (x ∷ es) (y ∷ rs) zero e r h entry row = rw (entry, row) h.0
 of_rows_at P (x ∷ es) (y ∷ rs) (suc k) e r h entry row = of_rows_at P es rs k e r h.1 entry row
 
-pub with_rows_length : (fresh : List (ℕ × Option Row)) (rows : List (Option Row)) → length (with_rows fresh rows) ≡ length rows
-with_rows_length [] rows = refl
-with_rows_length (one ∷ more) rows = with_rows_length more (set rows one.0 one.1) ∙ length-set rows one.0 one.1
+pub with_each_length : {X : Type 0} (put : X → Option Row → Option Row) (fresh : List (ℕ × X)) (rows : List (Option Row)) → length (with_each put fresh rows) ≡ length rows
+with_each_length put [] rows = refl
+with_each_length put (one ∷ more) rows =
+    let row = put one.1 (get_or rows one.0 None) in
+    with_each_length put more (set rows one.0 row) ∙ length-set rows one.0 row
 
--- at the places whose numbers are in the list stand the new rows, at all others those that with_standings there
-pub with_rows_at : (new : ℕ → Option Row) (ns : List ℕ) (rows : List (Option Row)) (k : ℕ) → k < length rows → ((i : ℕ) → i < length ns → 0 < get_or ns i 0)
-    → get_or (with_rows (map (λ n. (n - 1, new (n - 1))) ns) rows) k None ≡ cond (has_number ns (k + 1)) (new k) (get_or rows k None)
-with_rows_at new [] rows k within above = refl
-with_rows_at new (n ∷ ns) rows k within above =
-    with_rows_at new ns (set rows (n - 1) (new (n - 1))) k (omega (arith, length-set rows (n - 1) (new (n - 1)))) (λ i less. above (suc i) (omega arith))
-    ∙ by (nat_eq (k + 1) n) refl
-  where
-    both : (b : Bool) (x : Option Row) → cond b x x ≡ x
-    both true x = refl
-    both false x = refl
-
-    by : (b : Bool) → nat_eq (k + 1) n ≡ b
-        → cond (has_number ns (k + 1)) (new k) (get_or (set rows (n - 1) (new (n - 1))) k None) ≡ cond (b || has_number ns (k + 1)) (new k) (get_or rows k None)
-    by true is =
-        let same : k + 1 ≡ n = eqb-true (k + 1) n is in
-        let place : k ≡ n - 1 = omega (arith, same) in
-        let here : get_or (set rows (n - 1) (new (n - 1))) k None ≡ new k =
-        subst (λ (j : ℕ). get_or (set rows j (new j)) k None ≡ new k) place (get_or-set_same rows k (new k) None within) in
-        ap (cond (has_number ns (k + 1)) (new k)) here ∙ both (has_number ns (k + 1)) (new k)
-    by false is =
-        let ne : (k + 1 ≡ n → ⊥) = eqb-false (k + 1) n is in
-        let positive : 0 < n = above 0 (omega arith) in
-        ap (cond (has_number ns (k + 1)) (new k)) (get_or-set_other rows (n - 1) k (new (n - 1)) None (λ same. ne (omega (arith, same, positive))))
-
--- ---- standings put at their places
-
-twice : (standing : Standing) (r : Option Row) → row_stood standing (row_stood standing r) ≡ row_stood standing r
-twice standing None = refl
-twice standing (Some r) = refl
-
-pub with_standings_length : (fresh : List (ℕ × Standing)) (rows : List (Option Row)) → length (with_standings fresh rows) ≡ length rows
-with_standings_length [] rows = refl
-with_standings_length (one ∷ more) rows =
-    let row = row_stood one.1 (get_or rows one.0 None) in
-    with_standings_length more (set rows one.0 row) ∙ length-set rows one.0 row
-
--- at the places whose numbers are in the list the entries stand anew
-pub with_standings_at : (new : ℕ → Standing) (ns : List ℕ) (rows : List (Option Row)) (k : ℕ) → k < length rows → ((i : ℕ) → i < length ns → 0 < get_or ns i 0)
-    → get_or (with_standings (map (λ n. (n - 1, new (n - 1))) ns) rows) k None ≡ cond (has_number ns (k + 1)) (row_stood (new k) (get_or rows k None)) (get_or rows k None)
-with_standings_at new [] rows k within above = refl
-with_standings_at new (n ∷ ns) rows k within above =
-    with_standings_at new ns (set rows (n - 1) (made (n - 1))) k (omega (arith, length-set rows (n - 1) (made (n - 1)))) (λ i less. above (suc i) (omega arith))
+-- at the places whose numbers are in the list stands what is made of the rows there
+pub with_each_at : {X : Type 0} (put : X → Option Row → Option Row) → ((x : X) (r : Option Row) → put x (put x r) ≡ put x r) → (new : ℕ → X) (ns : List ℕ) (rows : List (Option Row)) (k : ℕ) → k < length rows
+    → ((i : ℕ) → i < length ns → 0 < get_or ns i 0)
+    → get_or (with_each put (map (λ n. (n - 1, new (n - 1))) ns) rows) k None ≡ cond (has_number ns (k + 1)) (put (new k) (get_or rows k None)) (get_or rows k None)
+with_each_at put twice new [] rows k within above = refl
+with_each_at put twice new (n ∷ ns) rows k within above =
+    with_each_at put twice new ns (set rows (n - 1) (made (n - 1))) k (omega (arith, length-set rows (n - 1) (made (n - 1)))) (λ i less. above (suc i) (omega arith))
     ∙ by (nat_eq (k + 1) n) refl
   where
     made : ℕ → Option Row
-    made j = row_stood (new j) (get_or rows j None)
+    made j = put (new j) (get_or rows j None)
 
-    both : (b : Bool) → cond b (row_stood (new k) (made k)) (made k) ≡ made k
+    both : (b : Bool) → cond b (put (new k) (made k)) (made k) ≡ made k
     both true = twice (new k) (get_or rows k None)
     both false = refl
 
     by : (b : Bool) → nat_eq (k + 1) n ≡ b
-        → cond (has_number ns (k + 1)) (row_stood (new k) (get_or (set rows (n - 1) (made (n - 1))) k None)) (get_or (set rows (n - 1) (made (n - 1))) k None)
+        → cond (has_number ns (k + 1)) (put (new k) (get_or (set rows (n - 1) (made (n - 1))) k None)) (get_or (set rows (n - 1) (made (n - 1))) k None)
         ≡ cond (b || has_number ns (k + 1)) (made k) (get_or rows k None)
     by true is =
         let same : k + 1 ≡ n = eqb-true (k + 1) n is in
         let place : k ≡ n - 1 = omega (arith, same) in
         let here : get_or (set rows (n - 1) (made (n - 1))) k None ≡ made k =
         subst (λ (j : ℕ). get_or (set rows j (made j)) k None ≡ made k) place (get_or-set_same rows k (made k) None within) in
-        ap (λ r. cond (has_number ns (k + 1)) (row_stood (new k) r) r) here ∙ both (has_number ns (k + 1))
+        ap (λ r. cond (has_number ns (k + 1)) (put (new k) r) r) here ∙ both (has_number ns (k + 1))
     by false is =
         let ne : (k + 1 ≡ n → ⊥) = eqb-false (k + 1) n is in
         let positive : 0 < n = above 0 (omega arith) in
-        ap (λ r. cond (has_number ns (k + 1)) (row_stood (new k) r) r) (get_or-set_other rows (n - 1) k (made (n - 1)) None (λ same. ne (omega (arith, same, positive))))
+        ap (λ r. cond (has_number ns (k + 1)) (put (new k) r) r) (get_or-set_other rows (n - 1) k (made (n - 1)) None (λ same. ne (omega (arith, same, positive))))
+
+pub stood_twice : (standing : Standing) (r : Option Row) → row_stood standing (row_stood standing r) ≡ row_stood standing r
+stood_twice standing None = refl
+stood_twice standing (Some r) = refl
 
 -- what holds of each entry and its row, where the row at each place is made of what with_standings there
 pub of_rows_places : (P Q : EntryValue → Row → Type 0) (f : Option EntryValue → Option Row → Option Row)

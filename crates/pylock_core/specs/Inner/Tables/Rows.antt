@@ -1,7 +1,6 @@
 -- The rows of a session: what belongs to number k stands at place k - 1.
-use Rattle.std.specs.Prelude.{Bool, false, Option, Some, None, ◌<◌, ℕ, true, List}
-use Rattle.std.specs.Prelude.{◌∷◌, zero, suc, slice_index_or, slice_set}
-use Rattle.std.specs.Prelude.{[], if◌then◌else◌}
+use Rattle.std.specs.Prelude.{Bool, false, Option, Some, None, ◌<◌, ℕ, true, List, ◌∷◌, zero, suc}
+use Rattle.std.specs.Prelude.{slice_index_or, slice_set, [], if◌then◌else◌}
 use Rattle.pylock_core.specs.declared.answer.PickSource.{PickSource}
 use Rattle.pylock_core.specs.declared.answer.PickSource.TheVariants as source
 use Rattle.pylock_core.specs.declared.edit.Policy.{Policy}
@@ -46,10 +45,17 @@ abbrev pub row_at : List (Option Row) → ℕ → Option Row
 row_at rows zero = None
 row_at rows (suc place) = slice_index_or rows place None
 
+-- the rows with what each of these makes of the row at its place
+abbrev pub with_each : {X : Type 0} → (X → Option Row → Option Row) → List (ℕ × X)
+    → List (Option Row) → List (Option Row)
+with_each put [] rows = rows
+with_each put (fresh ∷ more) rows =
+    with_each put more
+    (slice_set rows fresh.0 (put fresh.1 (slice_index_or rows fresh.0 None)))
+
 -- the rows with each of these at its place
 abbrev pub with_rows : List (ℕ × Option Row) → List (Option Row) → List (Option Row)
-with_rows [] rows = rows
-with_rows (fresh ∷ more) rows = with_rows more (slice_set rows fresh.0 fresh.1)
+with_rows = with_each (λ row old. row)
 
 -- ---- how entries stand
 
@@ -62,10 +68,7 @@ row_stood standing (Some row) = Some (record row {
 
 -- the rows where the entry at each of these places stands so
 abbrev pub with_standings : List (ℕ × Standing) → List (Option Row) → List (Option Row)
-with_standings [] rows = rows
-with_standings (fresh ∷ more) rows =
-    with_standings more
-    (slice_set rows fresh.0 (row_stood fresh.1 (slice_index_or rows fresh.0 None)))
+with_standings = with_each row_stood
 
 -- each has a place among so many
 abbrev pub AllWithin : {X : Type 0} → ℕ → List (ℕ × X) → Type 0

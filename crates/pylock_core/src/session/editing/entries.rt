@@ -118,10 +118,7 @@ fn prepare_row(
 fn name_of(row: &Option<Row>) -> Option<usize>
     ensures { result ≡ option_map (λ row. row.name) row.now }
 {
-    match row {
-        Some(row) => Some(row.name),
-        None => None,
-    }
+    Some(row.as_ref()?.name)
 }
 
 /// Gives the tag sets numbers anew where most of them have no wheel any more. Where there is no

@@ -1,16 +1,33 @@
-//! Edits of the policies of names.
+//! Edits of what wheels are judged by: the tags, and the policies of names.
 
 ghost use Rattle.pylock_core.specs.Inner.Editing.{Leaves};
 ghost use Rattle.pylock_core.specs.Inner.Parts.{IsSession};
 ghost use Rattle.pylock_core.specs.declared.edit.Edit.TheVariants as edit;
 
 use crate::edit::{EditError, Policy};
-use crate::session::judging::judgement::{judge_name, rows_under_policy};
+use crate::session::judging::judgement::{judge_name, judge_tags, rows_under_policy};
 use crate::session::parts::Parts;
 use crate::session::start_and_edit::Judged;
 use crate::session::tables::names::{marks_of, number_all, number_of, set_policies, set_policy};
 use crate::session::tables::rows::{marked_entries, put_rows};
 use pyver_core::NormalName;
+use pywheel_core::TagList;
+
+/// Puts the tags in place of those that were there.
+pub(crate) fn set_tags(
+    parts: &mut Parts,
+    tags: TagList,
+    judged: &mut Judged,
+) -> Result<(), EditError>
+    requires { IsSession parts.old }
+    ensures session { IsSession parts.new }
+    ensures left { Leaves (edit.Tags tags) parts.old parts.new judged.old judged.new result }
+{
+    let fresh = judge_tags(parts, &tags, judged)?;
+    put_rows(&mut parts.rows, fresh);
+    parts.tags = tags;
+    Ok(())
+}
 
 /// Gives the name the policy.
 pub(crate) fn give_policy(

@@ -113,10 +113,7 @@ fn standings(
 fn has_head(numbers: &[u32]) -> bool
     ensures { result ≡ has_head numbers.now }
 {
-    match numbers.first() {
-        Some(number) => *number == 0,
-        None => false,
-    }
+    matches!(numbers, [0, ..])
 }
 
 /// The numbers without that of the head, which stands before them or not.

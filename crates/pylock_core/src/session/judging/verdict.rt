@@ -322,13 +322,8 @@ fn python_check(set: Option<&SpecifierSet>, environment: &Environment) -> Option
 {
     let set = set?;
     match environment.version(Var::PythonFullVersion) {
-        Some(Ok(version)) => {
-            if set.admits(version) {
-                None
-            } else {
-                Some(FaultCode::PythonNotMet)
-            }
-        }
+        Some(Ok(version)) if set.admits(version) => None,
+        Some(Ok(_)) => Some(FaultCode::PythonNotMet),
         _ => Some(FaultCode::PythonUnknown),
     }
 }

@@ -58,15 +58,6 @@ impl Row {
     }
 }
 
-/// Has the entry of the row, if there is one, stand so.
-fn stand_row(row: &mut Option<Row>, anew: StandingAnew)
-    ensures { row.new ≡ row_stood anew row.old }
-{
-    if let Some(row) = row {
-        row.verdict.stand(anew);
-    }
-}
-
 /// Whether there is a row, and its name is marked.
 fn is_marked(row: &Option<Row>, marks: &[bool]) -> bool
     ensures { result ≡ passes (is_marked marks.now) row.now }
@@ -128,5 +119,7 @@ fn stand_at(rows: &mut Vec<Option<Row>>, place: usize, anew: StandingAnew)
     ensures { rows.new.items ≡ slice_set rows.old.items place
         (row_stood anew (slice_index_or rows.old.items place None)) }
 {
-    stand_row(&mut rows[place], anew);
+    if let Some(row) = &mut rows[place] {
+        row.verdict.stand(anew);
+    }
 }

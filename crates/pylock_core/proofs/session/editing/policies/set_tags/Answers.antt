@@ -7,7 +7,7 @@ use Rattle.pylock_core.specs.Session.Steps.{standing}
 use Rattle.pylock_core.specs.declared.session.parts.Parts.{Parts}
 use Rattle.pylock_core.proofs.Lemmas.Judging.Judgement.{anew_judged, anew_named, anew_numbered, anew_within, with_rows_anew, Suffices, no_and_yes}
 use Rattle.pylock_core.proofs.Lemmas.Judging.Verdict.{best_same}
-use Rattle.pylock_core.proofs.session.editing.tags.set_tags.Goals as goal
+use Rattle.pylock_core.proofs.session.editing.policies.set_tags.Goals as goal
 
 tags_suffice : (parts : Parts) (tags : List TagValue)
     → Suffices parts (entry_reads OfTags) parts.environment tags parts.names.policies.items (policy_at parts.names.policies.items)
