@@ -38,11 +38,9 @@ fn lock_text(alloc: Global, lock: &Lock) -> Result<String, AllocError> {
 }
 
 fn push_head(told: &mut String, lock: &Lock) -> Result<(), AllocError> {
-    let head = lock.head();
-    push_environments(told, head.environments())?;
-    let set = head.requires_python().map(SpecifierSet::text);
-    let extras = head.extras().as_slice();
-    let (groups, default) = (head.groups().as_slice(), head.default_groups().as_slice());
+    push_environments(told, lock.environments())?;
+    let set = lock.requires_python().map(SpecifierSet::text);
+    let (extras, groups, default) = (lock.extras(), lock.groups(), lock.default_groups());
     writeln!(told, "requires-python {set:?}, extras {extras:?}")?;
     writeln!(
         told,

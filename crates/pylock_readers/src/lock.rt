@@ -1,5 +1,6 @@
 //! Locks (PEP 751).
-ghost use Rattle.std.specs.Prelude.{◌≡◌, ◌≤◌, length, vec_len};
+ghost use Rattle.std.specs.Prelude.{◌≡◌, ◌≤◌, length, map, string_bytes, vec_len};
+ghost use Rattle.std.specs.Option.{option_copied};
 ghost use Rattle.pylock_readers.specs.Lock.{HeadValue};
 
 mod elements;
@@ -11,6 +12,8 @@ use crate::entry::Entry;
 pub use elements::Packages;
 pub use head::Head;
 pub use names::HeadNames;
+use pymark_core::Marker;
+use pyver_core::SpecifierSet;
 pub use read::read_document_without;
 use std::marker::Model;
 
@@ -48,6 +51,43 @@ impl Drop for Lock {
 }
 
 impl Lock {
+    /// The markers of the key `environments`, in their order: the lock is for an environment where
+    /// one of them is true, or for every one where there is none.
+    pub fn environments(&self) -> &[Marker]
+        ensures { result.now ≡ self.now.head.environments }
+    {
+        self.head.environments()
+    }
+
+    /// The key `requires-python`.
+    pub fn requires_python(&self) -> Option<&SpecifierSet>
+        ensures { option_copied result ≡ self.now.head.requires_python }
+    {
+        self.head.requires_python()
+    }
+
+    /// The names of the key `extras` in normal form (PEP 503), each once, in their order.
+    pub fn extras(&self) -> &[String]
+        ensures { map string_bytes result.now ≡ self.now.head.extras }
+    {
+        self.head.extras().as_slice()
+    }
+
+    /// The names of the key `dependency-groups` in normal form (PEP 503), each once, in their
+    /// order.
+    pub fn groups(&self) -> &[String]
+        ensures { map string_bytes result.now ≡ self.now.head.groups }
+    {
+        self.head.groups().as_slice()
+    }
+
+    /// The names of the key `default-groups` in normal form (PEP 503), each once, in their order.
+    pub fn default_groups(&self) -> &[String]
+        ensures { map string_bytes result.now ≡ self.now.head.default_groups }
+    {
+        self.head.default_groups().as_slice()
+    }
+
     /// The head of the lock.
     pub fn head(&self) -> &Head
         ensures { result.now ≡ self.now.head }
