@@ -4,7 +4,6 @@
 //! measured from outside.
 #![tactic(auto)]
 
-mod edits;
 mod entries;
 mod environments;
 mod files;

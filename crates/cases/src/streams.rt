@@ -6,8 +6,8 @@ use crate::files;
 use crate::runs::text_with_status;
 use case_files::{bytes, list, texts};
 use pylock_run::{
-    FromRead, Output, Pieces, Room, Sink, Source, ToWrite, open_fault, read_file, read_whole,
-    run, write_all,
+    FromRead, Output, Pieces, Room, Sink, Source, ToWrite, open_fault, read_file, read_whole, run,
+    write_all,
 };
 use std::alloc::Global;
 use std::io;
