@@ -1,5 +1,6 @@
 //! Entries: why one is refused, and what one tells.
 
+use crate::files::accepted;
 use crate::sources::push_sources;
 use case_files::text;
 use pylock_core::Entry;
@@ -24,16 +25,10 @@ pub(crate) fn judge_text(alloc: Global, text: &str) -> Result<String, AllocError
 /// What the readers of the entry `entry` tell.
 pub(crate) fn answer_case(alloc: Global, case: &Table) -> anyhow::Result<String> {
     let text = text(alloc, case, "entry")?;
-    match Entry::read_text(alloc, text.as_str()) {
-        Ok(entry) => Ok(entry_text(alloc, &entry)?),
-        Err(refusal) => Err(anyhow::anyhow!("the entry is refused: {refusal:?}")),
-    }
-}
-
-fn entry_text(alloc: Global, entry: &Entry) -> Result<String, AllocError> {
+    let entry = accepted(Entry::read_text(alloc, text.as_str()))?;
     let mut told = String::new(alloc);
-    push_conditions(&mut told, entry)?;
-    push_sources(&mut told, entry)?;
+    push_conditions(&mut told, &entry)?;
+    push_sources(&mut told, &entry)?;
     Ok(told)
 }
 

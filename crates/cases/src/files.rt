@@ -5,6 +5,7 @@ use pylock_core::{Lock, read_environment};
 use pymark_core::Environment;
 use pywheel_core::TagList;
 use std::alloc::Global;
+use std::fmt::Debug;
 use toml::Table;
 
 /// The two lines that most locks begin with.
@@ -37,11 +38,15 @@ pub(crate) fn read(
     lock: &[u8],
     environment: &[u8],
 ) -> anyhow::Result<(Lock, Environment, TagList)> {
-    let Ok(lock) = Lock::read(alloc, lock) else {
-        return Err(anyhow::anyhow!("the lock is refused"));
-    };
-    match read_environment(alloc, environment) {
-        Ok((environment, tags)) => Ok((lock, environment, tags)),
-        Err(_) => Err(anyhow::anyhow!("the environment is refused")),
+    let lock = accepted(Lock::read(alloc, lock))?;
+    let (environment, tags) = accepted(read_environment(alloc, environment))?;
+    Ok((lock, environment, tags))
+}
+
+/// What was read, which a case takes for granted.
+pub(crate) fn accepted<T: Drop, E: Debug + Drop>(read: Result<T, E>) -> anyhow::Result<T> {
+    match read {
+        Ok(read) => Ok(read),
+        Err(refusal) => Err(anyhow::anyhow!("a text is refused: {refusal:?}")),
     }
 }

@@ -1,13 +1,13 @@
 //! Cases of locks, of entries, of environments, of the messages on them, of sessions, of runs, of
-//! commands and of command lines: what each reader, session and command gives for the texts in
-//! `data/`. Or, with the word `steps`, a session that prints nothing, whose allocations and time
-//! are measured from outside.
+//! commands, of command lines, of JSON documents, and of sources and sinks, some of which fail: what
+//! each reader, session and command gives for the texts in `data/`. Or, with the word `steps`, a
+//! session that prints nothing, whose allocations and time are measured from outside.
 #![tactic(auto)]
 
-mod edits;
 mod entries;
 mod environments;
 mod files;
+mod json;
 mod keys;
 mod locks;
 mod messages;
@@ -16,6 +16,7 @@ mod runs;
 mod sessions;
 mod sources;
 mod steps;
+mod streams;
 mod words;
 
 use case_files::{Answers, print_files};
@@ -36,12 +37,16 @@ impl Answers for Cases {
             "environment" => environments::judge(alloc, case),
             "environment_keys" => environments::answer_case(alloc, case),
             "environment_message" => messages::of_environment(alloc, case),
+            "json" => json::answer_case(alloc, case),
             "keys" => keys::answer_case(alloc, case),
             "lock" => locks::judge(alloc, case),
             "lock_keys" => locks::answer_case(alloc, case),
             "lock_message" => messages::of_lock(alloc, case),
             "run" => runs::answer_case(alloc, case),
             "session" => sessions::answer_case(alloc, case),
+            "sink" => streams::write_case(alloc, case),
+            "source" => streams::read_case(alloc, case),
+            "unopened" => streams::tell_faults(alloc),
             _ => Err(anyhow::anyhow!("no kind of case")),
         }
     }

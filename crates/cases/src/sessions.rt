@@ -1,9 +1,9 @@
 //! Sessions: what each edit judges again, and the answers.
 
-use crate::edits::read_edit;
 use crate::files;
 use case_files::text;
 use pylock_core::{Answer, Edit, Entry, Plan, Session};
+use pylock_run::{Command, read_line};
 use std::alloc::{AllocError, Global};
 use toml::Table;
 
@@ -81,4 +81,15 @@ fn plan_text(alloc: Global, plan: Plan) -> Result<String, AllocError> {
         write!(text, " {} {:?}", pick.id, pick.source)?;
     }
     Ok(text)
+}
+
+/// The edit of a line, written as those of a run; but `del` takes any number.
+pub(crate) fn read_edit(alloc: Global, line: &str) -> anyhow::Result<Edit> {
+    if let Some(number) = line.strip_prefix("del ") {
+        return Ok(Edit::Del(number.parse()?));
+    }
+    match read_line(alloc, line.as_bytes()) {
+        Ok(Command::Edit(edit)) => Ok(edit),
+        _ => Err(anyhow::anyhow!("no edit: {line}")),
+    }
 }

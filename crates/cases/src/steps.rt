@@ -2,8 +2,8 @@
 //! step after the other: `tools/check/allocations/run` counts the allocations of each step, and
 //! `tools/measure/speed` takes the time of the reading and of the start.
 
-use crate::edits::read_edit;
 use crate::files::read;
+use crate::sessions::read_edit;
 use pylock_core::{Entry, Lock, Session};
 use pymark_core::{Environment, Marker};
 use std::alloc::Global;

@@ -8,7 +8,7 @@
 //! match read_audited(alloc, lock) {
 //!     Ok((_, found)) => {
 //!         push_found(alloc, out, form, found.as_slice())?;
-//!         Ok(findings_status(found.as_slice()))
+//!         Ok(list_status(found.as_slice()))
 //!     }
 //!     Err(LockError::Memory) => Err(AllocError),
 //!     Err(error) => push_refused_lock(alloc, out, form, error),

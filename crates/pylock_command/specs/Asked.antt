@@ -7,8 +7,7 @@ use Rattle.pylock_command.specs.Choices.{AreChoices, has_choices}
 use Rattle.pylock_command.specs.Form.{IsOutput, form_of, output_misuse}
 use Rattle.pylock_command.specs.Machine.{IsMachine, machine_misuse, names_none, place_misuse}
 use Rattle.pylock_command.specs.Misuse.{first, lack}
-use Rattle.pylock_command.specs.Strict.{is_strict}
-use Rattle.pylock_command.specs.Texts.{HasText, input_misuse, inputs_misuse}
+use Rattle.pylock_command.specs.Texts.{HasText, has_flag, input_misuse, inputs_misuse}
 use Rattle.pylock_command.specs.declared.misuse.Misuse.{Misuse}
 use Rattle.pylock_command.specs.declared.misuse.Misuse.TheVariants.{NoPlans}
 use Rattle.pylock_command.specs.declared.task.Comparison.{Comparison}
@@ -21,7 +20,7 @@ use Rattle.pylock_command.specs.declared.task.View.{View}
 
 abbrev pub IsOpening : List Row → Opening → Type 0
 IsOpening rows opening = HasText rows (codes "LOCK") opening.lock.now
-    × IsMachine (codes "ENV") rows opening.machine × (opening.strict ≡ is_strict rows)
+    × IsMachine (codes "ENV") rows opening.machine × (opening.strict ≡ has_flag (codes "strict") rows)
 
 -- the words name a lock and a machine
 abbrev pub opening_misuse : List Row → Option Misuse

@@ -6,6 +6,5 @@ pub mod Commands
 pub mod Form
 pub mod Machine
 pub mod Misuse
-pub mod Strict
 pub mod Subcommand
 pub mod Texts

@@ -10,9 +10,8 @@ use crate::choices::choices_of;
 use crate::form::{form_of, output_of};
 use crate::machine::{machine_of, place_of};
 use crate::misuse::{Misuse, NoTask};
-use crate::strict::is_strict;
 use crate::task::{Comparison, Installation, Opening, Question, View};
-use crate::texts::{judge_input, judge_inputs, text_of};
+use crate::texts::{has_flag, judge_input, judge_inputs, text_of};
 use clap::ArgMatches;
 use std::alloc::Global;
 
@@ -55,7 +54,7 @@ fn opening_of<'a>(found: &ArgMatches<'a>) -> Result<Opening<'a>, Misuse>
     Ok(Opening {
         lock: text_of(found, "LOCK")?,
         machine: machine_of(found)?,
-        strict: is_strict(found),
+        strict: has_flag(found, "strict"),
     })
 }
 

@@ -57,13 +57,7 @@ pub(crate) const JSON_LINES: Argument = Argument {
     help: "Print a JSON document on a line for each answer",
 };
 
-pub(crate) const PLAN_FORMAT: Argument = Argument {
-    name: "format",
-    kind: Kind::Single("FORM"),
-    help: "Print a form that another tool takes",
-};
-
-pub(crate) const FILE_FORMAT: Argument = Argument {
+pub(crate) const FORMAT: Argument = Argument {
     name: "format",
     kind: Kind::Single("FORM"),
     help: "Print a form that another tool takes",

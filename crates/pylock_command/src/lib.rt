@@ -23,7 +23,6 @@ mod form;
 mod help;
 mod machine;
 mod misuse;
-mod strict;
 mod subcommand;
 mod task;
 mod texts;

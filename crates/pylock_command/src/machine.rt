@@ -32,53 +32,43 @@ const ABOUT_PYTHON: &str = "The Python of a target: 3.12, 3.12.4 or 3.13t";
 
 const ABOUT_PLATFORM: &str = "Its platform: linux or manylinux_2_28_x86_64";
 
-const PYTHON: Argument = Argument {
-    name: "python",
-    kind: Kind::Single("PYTHON"),
-    help: ABOUT_PYTHON,
+/// The path of an environment.
+pub(crate) const ENV: Argument = Argument {
+    name: "ENV",
+    kind: Kind::OptionalText,
+    help: "The path of an environment, JSON with marker variables and tags, or -",
 };
-
-const PLATFORM: Argument = Argument {
-    name: "platform",
-    kind: Kind::Single("PLATFORM"),
-    help: ABOUT_PLATFORM,
-};
-
-/// The path of an environment, or a target in its place.
-pub(crate) const MACHINE: [Argument; 3] = [
-    Argument {
-        name: "ENV",
-        kind: Kind::OptionalText,
-        help: "The path of an environment, JSON with marker variables and tags, or -",
-    },
-    PYTHON,
-    PLATFORM,
-];
 
 /// The same of `select`, which reads its edits from standard input.
-pub(crate) const SELECT_MACHINE: [Argument; 3] = [
-    Argument {
-        name: "ENV",
-        kind: Kind::OptionalText,
-        help: "The path of an environment, JSON with marker variables and tags",
-    },
-    PYTHON,
-    PLATFORM,
-];
+pub(crate) const SELECT_ENV: Argument = Argument {
+    name: "ENV",
+    kind: Kind::OptionalText,
+    help: "The path of an environment, JSON with marker variables and tags",
+};
 
 /// The same, where no machine may be asked for.
-pub(crate) const IN_MACHINE: [Argument; 3] = [
+pub(crate) const IN: Argument = Argument {
+    name: "in",
+    kind: Kind::Single("ENV"),
+    help: "Compare the plans for this environment",
+};
+
+/// A target in the place of an environment.
+pub(crate) const TARGET: [Argument; 2] = [
     Argument {
-        name: "in",
-        kind: Kind::Single("ENV"),
-        help: "Compare the plans for this environment",
+        name: "python",
+        kind: Kind::Single("PYTHON"),
+        help: ABOUT_PYTHON,
     },
-    PYTHON,
-    PLATFORM,
+    Argument {
+        name: "platform",
+        kind: Kind::Single("PLATFORM"),
+        help: ABOUT_PLATFORM,
+    },
 ];
 
-/// A target.
-pub(crate) const TARGET: [Argument; 2] = [
+/// A target that has to be there.
+pub(crate) const NEEDED_TARGET: [Argument; 2] = [
     Argument {
         name: "python",
         kind: Kind::Needed("PYTHON"),

@@ -7,10 +7,9 @@ ghost use Rattle.pylock_command.specs.Commands.{IsCommand, IsLocal};
 
 use crate::argument::{Argument, Kind, with_groups};
 use crate::choices::CHOICES;
-use crate::form::{FILE_FORMAT, JSON, JSON_LINES, PLAN_FORMAT};
+use crate::form::{FORMAT, JSON, JSON_LINES};
 use crate::help;
-use crate::machine::{IN_MACHINE, MACHINE, SELECT_MACHINE, TARGET};
-use crate::strict::STRICT;
+use crate::machine::{ENV, IN, NEEDED_TARGET, SELECT_ENV, TARGET};
 use clap::Command;
 use std::alloc::{AllocError, Global};
 
@@ -96,30 +95,36 @@ const AN_SDIST: Argument = Argument {
     help: "A file name, such as numpy-2.2.1.tar.gz",
 };
 
+const STRICT: Argument = Argument {
+    name: "strict",
+    kind: Kind::Flag,
+    help: "Refuse a lock with certain findings of audit",
+};
+
 /// The subcommands, in the order of the help.
 pub(crate) const SUBCOMMANDS: [Usage; 14] = [
     Usage {
         name: "plan",
         about: "Print what a lock installs in an environment",
-        arguments: &[&[LOCK], &MACHINE, &CHOICES, &[STRICT, PLAN_FORMAT, JSON]],
+        arguments: &[&[LOCK, ENV], &TARGET, &CHOICES, &[STRICT, FORMAT, JSON]],
         reply: help::PLAN,
     },
     Usage {
         name: "explain",
         about: "Print what becomes of each entry of a lock, and why",
-        arguments: &[&[LOCK], &MACHINE, &CHOICES, &[STRICT, JSON]],
+        arguments: &[&[LOCK, ENV], &TARGET, &CHOICES, &[STRICT, JSON]],
         reply: help::EXPLAIN,
     },
     Usage {
         name: "select",
         about: "Print what a lock installs, and print it again after each edit",
-        arguments: &[&[SELECT_LOCK], &SELECT_MACHINE, &[STRICT, JSON_LINES]],
+        arguments: &[&[SELECT_LOCK, SELECT_ENV], &TARGET, &[STRICT, JSON_LINES]],
         reply: help::SELECT,
     },
     Usage {
         name: "files",
         about: "Print every source that a lock names, whatever machine it is for",
-        arguments: &[&[LOCK, FILE_FORMAT, JSON]],
+        arguments: &[&[LOCK, FORMAT, JSON]],
         reply: help::FILES,
     },
     Usage {
@@ -131,13 +136,13 @@ pub(crate) const SUBCOMMANDS: [Usage; 14] = [
     Usage {
         name: "diff",
         about: "Print what a change of a lock means",
-        arguments: &[&[OLD, NEW], &IN_MACHINE, &CHOICES, &[JSON]],
+        arguments: &[&[OLD, NEW, IN], &TARGET, &CHOICES, &[JSON]],
         reply: help::DIFF,
     },
     Usage {
         name: "environment",
         about: "Print the environment of a Python and a platform",
-        arguments: &[&TARGET],
+        arguments: &[&NEEDED_TARGET],
         reply: help::ENVIRONMENT,
     },
     Usage {
@@ -161,7 +166,7 @@ pub(crate) const SUBCOMMANDS: [Usage; 14] = [
     Usage {
         name: "marker",
         about: "Print whether a marker holds in an environment (PEP 508)",
-        arguments: &[&[A_MARKER], &MACHINE, &[JSON]],
+        arguments: &[&[A_MARKER, ENV], &TARGET, &[JSON]],
         reply: help::MARKER,
     },
     Usage {

@@ -1,5 +1,5 @@
 -- What `diff` prints: what changed from one lock to another, or from one plan to the other.
-use Rattle.std.specs.Prelude.{ℕ, List, [], ◌∷◌, Option, Some, Result, Ok}
+use Rattle.std.specs.Prelude.{ℕ, List, Option, Some, Result, Ok}
 use Rattle.std.specs.Result.{result_map_both}
 use Rattle.pytext.specs.Results.{◌>>=◌}
 use Rattle.pylock_command.specs.declared.choice.Choice.{Choice}
@@ -16,6 +16,7 @@ use Rattle.pylock_readers.specs.Environment.{EnvironmentRead}
 use Rattle.pylock_readers.specs.Lock.Reading.{lock_of}
 use Rattle.pylock_readers.specs.declared.error.LockError.{LockError}
 use Rattle.pylock_run.specs.Report.{Report}
+use Rattle.pylock_program.specs.Findings.{list_status}
 use Rattle.pylock_program.specs.Opening.{chosen_state, environment_of}
 use Rattle.pylock_program.specs.Refusal.{report_or_refusal}
 use Rattle.pylock_program.specs.Text.Diff.{changes_text}
@@ -25,18 +26,14 @@ use Rattle.pylock_program.specs.declared.refusal.Cause.TheVariants as cause
 use Rattle.pylock_program.specs.declared.refusal.Side.{Side as LockSide}
 use Rattle.pylock_program.specs.declared.refusal.Side.TheVariants.{Old, New}
 
--- the changes, and whether there are any: status 0 where there is none
+-- the changes, and whether there are any
 abbrev pub changes_shown : Form → List ChangeValue → List ℕ
 changes_shown Lines changes = changes_text changes
 changes_shown Json changes = json_text (changes_rows changes)
 
-abbrev pub changes_status : List ChangeValue → ℕ
-changes_status [] = 0
-changes_status (change ∷ changes) = 1
-
 abbrev pub changes_report : Form → List ChangeValue → Report
 changes_report form changes =
-    record { text = changes_shown form changes; status = changes_status changes }
+    record { text = changes_shown form changes; status = list_status changes }
 
 -- one of two locks, or its refusal
 abbrev pub side_of : {V : Type 0} → LockSide → Result V LockError → Result V Cause
@@ -55,13 +52,6 @@ locks_report form told old new =
     report_or_refusal (Some form) told (λ both. changes_report form (lock_changes both.0 both.1))
     (both_of (compared_of old) (compared_of new))
 
--- both states after the options, or the first option that is refused
-abbrev pub both_chosen : List Choice → State × State → Result (State × State) Cause
-both_chosen choices both = do
-  old ← chosen_state choices both.0
-  new ← chosen_state choices both.1
-  Ok (old, new)
-
 -- the states of both locks after the options, in an environment as it was read: both locks are
 -- judged before the environment, and that before an option
 abbrev pub plans_state : List Choice → List ℕ → List ℕ → EnvironmentRead
@@ -69,8 +59,9 @@ abbrev pub plans_state : List Choice → List ℕ → List ℕ → EnvironmentRe
 plans_state choices old new read = do
   locks ← both_of (lock_of old) (lock_of new)
   environment ← environment_of read
-  both_chosen choices
-      (first locks.0 environment.0 environment.1, first locks.1 environment.0 environment.1)
+  old ← chosen_state choices (first locks.0 environment.0 environment.1)
+  new ← chosen_state choices (first locks.1 environment.0 environment.1)
+  Ok (old, new)
 
 abbrev pub plans_report : Form → Option DiagnosticValue → List Choice → List ℕ → List ℕ
     → EnvironmentRead → Report

@@ -1,4 +1,4 @@
--- What is printed of the findings in a lock.
+-- What is printed of the findings in a lock, and the status of a list.
 use Rattle.std.specs.Prelude.{ℕ, List, [], ◌∷◌}
 use Rattle.pylock_audit.specs.Document.{findings_rows}
 use Rattle.pylock_audit.specs.Finding.{LockFindingValue}
@@ -13,10 +13,10 @@ findings_shown Lines found = findings_text found
 findings_shown Json found = json_text (findings_rows found)
 
 -- 0 where there are none
-abbrev pub findings_status : List LockFindingValue → ℕ
-findings_status [] = 0
-findings_status (one ∷ others) = 1
+abbrev pub list_status : {X : Type 0} → List X → ℕ
+list_status [] = 0
+list_status (one ∷ others) = 1
 
 abbrev pub findings_report : Form → List LockFindingValue → Report
 findings_report form found =
-    record { text = findings_shown form found; status = findings_status found }
+    record { text = findings_shown form found; status = list_status found }

@@ -14,12 +14,12 @@ use Rattle.pylock_run.specs.Report.{Report}
 use Rattle.pylock_run.specs.Report.Print.{Prints}
 use Rattle.pylock_run.specs.Stream.{SinkValue}
 use Rattle.pylock_run.specs.Text.Field.{field, line_of}
-use Rattle.pylock_run.specs.Text.Refusal.{refusal_text, side_text}
+use Rattle.pylock_run.specs.Text.Refusal.{lock_words, refusal_text, side_text}
 use Rattle.pylock_run.specs.declared.report.fault.RunFault.{RunFault}
 use Rattle.pylock_run.specs.declared.report.opening.OpenError.{OpenError}
 use Rattle.pylock_run.specs.declared.report.opening.OpenError.TheVariants as open_error
 use Rattle.pylock_program.specs.Findings.{findings_shown}
-use Rattle.pylock_program.specs.Text.Json.{option_json, refusal_json, side_json, words_json}
+use Rattle.pylock_program.specs.Text.Json.{option_json, refusal_json, words_json}
 use Rattle.pylock_program.specs.declared.opening.Unopened.{Unopened}
 use Rattle.pylock_program.specs.declared.opening.Unopened.TheVariants.{Findings, Refused}
 use Rattle.pylock_program.specs.declared.refusal.Cause.{Cause}
@@ -52,7 +52,8 @@ side_word New = codes "new"
 
 abbrev pub side_told : Form → Option DiagnosticValue → LockSide → LockError → List ℕ
 side_told Lines told side error = side_text (side_word side) error
-side_told Json told side error = side_json (side_word side) error told
+side_told Json told side error =
+    words_json (codes "lock" ∷ side_word side ∷ lock_words error) told
 
 -- an option that is refused: its word, without the dashes, and its text
 abbrev pub option_told : Form → Option DiagnosticValue → Choice → List ℕ

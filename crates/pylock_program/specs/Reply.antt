@@ -163,14 +163,11 @@ abbrev pub names_text : List (List ℕ) → Option (List ℕ)
 names_text [] = None
 names_text (name ∷ names) = Some (join_by normal_name (codes ",") (name ∷ names))
 
-abbrev pub requirement_line : RequirementValue → List ℕ
-requirement_line parts =
+abbrev pub requirement_shown : Form → RequirementValue → List ℕ
+requirement_shown Lines parts =
     line_of (field (Some (normal_name parts.name)))
     (field (names_text parts.extras) ∷ field (specifiers_text parts.set) ∷ field parts.url
     ∷ field (option_map (λ marker. marker.text) parts.marker) ∷ [])
-
-abbrev pub requirement_shown : Form → RequirementValue → List ℕ
-requirement_shown Lines parts = requirement_line parts
 requirement_shown Json parts = json_text (requirement_rows parts)
 
 abbrev pub requirement_answer : Form → List ℕ → Result (List ℕ) Report
@@ -188,14 +185,11 @@ wheel_word wheel.Build = codes "build"
 wheel_word wheel.Tags = codes "tags"
 wheel_word wheel.Memory = codes "memory"
 
-abbrev pub wheel_line : WheelValue → List ℕ
-wheel_line parts =
+abbrev pub wheel_shown : Form → WheelValue → List ℕ
+wheel_shown Lines parts =
     line_of (field (Some (normal_name parts.name)))
     (field (Some (normal_text parts.version)) ∷ field parts.build
     ∷ field (Some (join_by tag_text (codes " ") parts.tags)) ∷ [])
-
-abbrev pub wheel_shown : Form → WheelValue → List ℕ
-wheel_shown Lines parts = wheel_line parts
 wheel_shown Json parts = json_text (wheel_rows parts)
 
 abbrev pub wheel_answer : Form → List ℕ → Result (List ℕ) Report
@@ -211,12 +205,9 @@ sdist_word sdist.Name = codes "name"
 sdist_word sdist.Version = codes "version"
 sdist_word sdist.Memory = codes "memory"
 
-abbrev pub sdist_line : SdistValue → List ℕ
-sdist_line parts =
-    line_of (field (Some parts.name)) (field (Some (normal_text parts.version)) ∷ [])
-
 abbrev pub sdist_shown : Form → SdistValue → List ℕ
-sdist_shown Lines parts = sdist_line parts
+sdist_shown Lines parts =
+    line_of (field (Some parts.name)) (field (Some (normal_text parts.version)) ∷ [])
 sdist_shown Json parts = json_text (sdist_rows parts)
 
 abbrev pub sdist_answer : Form → List ℕ → Result (List ℕ) Report

@@ -215,7 +215,7 @@ pub(crate) fn split_at_equals(text: &str) -> Option<(&str, &str)>
 }
 
 /// The word of an option, without its dashes, and its text, where it has one.
-pub(crate) fn option_words<'a>(choice: Choice<'a>) -> (&'static str, Option<&'a str>)
+pub(crate) fn option_words<'a>(choice: Choice<'a>) -> (&'a str, Option<&'a str>)
     ensures { (result.0.now, option_copied result.1) ≡ option_words choice.entry }
 {
     match choice {

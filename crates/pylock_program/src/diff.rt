@@ -6,13 +6,11 @@ ghost use Rattle.pylock_core.specs.Session.State.{first};
 ghost use Rattle.pylock_core.specs.Session.Steps.{answer};
 ghost use Rattle.pylock_diff.specs.Changes.{answer_changes, lock_changes};
 ghost use Rattle.pylock_diff.specs.Compared.{compared_of};
-ghost use Rattle.pylock_diff.specs.Document.{changes_rows};
-ghost use Rattle.pylock_program.specs.Diff.{both_chosen, both_of, changes_report, changes_status};
+ghost use Rattle.pylock_program.specs.Diff.{both_of, changes_report};
 ghost use Rattle.pylock_program.specs.Diff.{locks_report, plans_report, plans_state};
 ghost use Rattle.pylock_program.specs.Inner.Machine.{machine_read};
 ghost use Rattle.pylock_program.specs.Program.{Compares, Opens, OpensMachine, RepliesTelling};
 ghost use Rattle.pylock_program.specs.Refusal.{GivesOr, PrintsTelling};
-ghost use Rattle.pylock_program.specs.Text.Json.{json_text};
 ghost use Rattle.pylock_program.specs.declared.refusal.Cause.TheVariants as cause;
 ghost use Rattle.pylock_readers.specs.Lock.Reading.{lock_of};
 ghost use Rattle.pylock_run.specs.Report.Print.{Prints};
@@ -25,9 +23,8 @@ use crate::refusal::{Refusal, Side, write_refusal};
 use crate::text::diff::write_changes;
 use pylock_command::{Choice, Comparison, Form, Installation};
 use pylock_core::{Lock, LockError, Session};
-use pylock_diff::{Change, Compared, diff_document, lock_changes, plan_changes, read_compared};
-use pylock_documents::push_document;
-use pylock_run::{Files, RunFault, Sink, Source, print};
+use pylock_diff::{Compared, lock_changes, plan_changes, read_compared};
+use pylock_run::{Files, RunFault, Sink, Source};
 use pymark_core::Environment;
 use pywheel_core::TagList;
 use std::alloc::{AllocError, Global};
@@ -134,46 +131,7 @@ fn write_locks<W: Sink>(
         (W.value writer.old) (W.value writer.new) result }
 {
     let changes = lock_changes(alloc, old, new)?;
-    write_shown(alloc, form, &changes, writer)
-}
-
-/// Writes the changes, and answers whether there are any.
-fn write_shown<W: Sink>(
-    alloc: Global,
-    form: Form,
-    changes: &[Change],
-    writer: &mut W,
-) -> Result<u8, RunFault>
-    ensures { Prints (changes_report form changes.now)
-        (W.value writer.old) (W.value writer.new) result }
-{
-    let status = changes_status(changes);
-    match form {
-        Form::Lines => write_changes(alloc, changes, status, writer),
-        Form::Json => write_document(alloc, changes, status, writer),
-    }
-}
-
-/// Whether there are any.
-fn changes_status(changes: &[Change]) -> u8
-    ensures { result ≡ changes_status changes.now }
-{
-    if changes.is_empty() { 0 } else { 1 }
-}
-
-/// Writes the document of changes, and answers the status.
-fn write_document<W: Sink>(
-    alloc: Global,
-    changes: &[Change],
-    status: u8,
-    writer: &mut W,
-) -> Result<u8, RunFault>
-    ensures { Prints (record { text = json_text (changes_rows changes.now); status = status })
-        (W.value writer.old) (W.value writer.new) result }
-{
-    let mut out = Vec::new(alloc);
-    push_document(alloc, &mut out, diff_document(alloc, changes)?)?;
-    print(&out, status, writer)
+    write_changes(alloc, form, &changes, writer)
 }
 
 // ---- what two locks install
@@ -240,25 +198,9 @@ fn open_both<'a>(alloc: Global, plans: Plans<'a>) -> Result<(Session, Session), 
     let old = lock_on(alloc, Side::Old, plans.sides.old)?;
     let new = lock_on(alloc, Side::New, plans.sides.new)?;
     let (environment, tags) = read_environment(alloc, plans.machine)?;
-    let sessions = start_both(alloc, (old, new), environment, tags)?;
-    let paths = (plans.sides.old.path, plans.sides.new.path);
-    choose_both(alloc, sessions, plans.choices, paths)
-}
-
-/// Makes the edits of the options on the old session, and then on the new one. `paths` are those of
-/// their locks.
-fn choose_both<'a>(
-    alloc: Global,
-    sessions: (Session, Session),
-    choices: &[Choice<'a>],
-    paths: (&str, &str),
-) -> Result<(Session, Session), Refusal<'a>>
-    ensures { GivesOr (λ both. (both.0.state, both.1.state)) result
-        (both_chosen choices.now (sessions.0.state, sessions.1.state)) }
-{
-    let (mut old, mut new) = sessions;
-    choose(alloc, &mut old, choices, paths.0)?;
-    choose(alloc, &mut new, choices, paths.1)?;
+    let (mut old, mut new) = start_both(alloc, (old, new), environment, tags)?;
+    choose(alloc, &mut old, plans.choices, plans.sides.old.path)?;
+    choose(alloc, &mut new, plans.choices, plans.sides.new.path)?;
     Ok((old, new))
 }
 
@@ -303,5 +245,5 @@ fn write_plans<W: Sink>(
         (W.value writer.old) (W.value writer.new) result }
 {
     let changes = plan_changes(alloc, old, new)?;
-    write_shown(alloc, form, &changes, writer)
+    write_changes(alloc, form, &changes, writer)
 }

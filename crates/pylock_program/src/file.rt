@@ -8,7 +8,7 @@ ghost use Rattle.pylock_readers.specs.Input.{input_env_of};
 
 use crate::failure::Failure;
 use crate::host::Host;
-use crate::notes::file::tell_file;
+use crate::notes::tell_file;
 use pylock_command::{Machine, TargetWords};
 use pylock_core::EnvironmentInput;
 use pylock_run::{FileFault, Files, Sink, Source, read_file};

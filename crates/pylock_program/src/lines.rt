@@ -2,6 +2,7 @@
 
 ghost use Rattle.std.specs.Prelude.{◌≡◌, ◌++◌, ℕ, List, IfErr, OnErr, OnOk, codes, decimal};
 ghost use Rattle.std.specs.List.{flat_map};
+ghost use Rattle.pylock_program.specs.Findings.{list_status};
 ghost use Rattle.pylock_run.specs.Inner.Faults.{IsWriteFault};
 ghost use Rattle.pylock_run.specs.Inner.Writes.{Pours};
 ghost use Rattle.pylock_run.specs.Report.Print.{Prints};
@@ -20,6 +21,13 @@ pub(crate) trait Line {
     /// Pushes the line.
     fn push(&self, out: &mut Vec<u8>) -> Result<(), AllocError>
         ensures { OnOk result (out.new.items ≡ out.old.items ++ line self.now) };
+}
+
+/// The status where a list is printed: whether anything is in it.
+pub(crate) fn list_status<T>(list: &[T]) -> u8
+    ensures { result ≡ list_status list.now }
+{
+    if list.is_empty() { 0 } else { 1 }
 }
 
 /// Pushes the line that tells how many lines come: a word and the number.

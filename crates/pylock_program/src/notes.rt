@@ -3,13 +3,10 @@
 pub(crate) mod expected;
 pub(crate) mod export;
 pub(crate) mod fault;
-pub(crate) mod file;
 pub(crate) mod options;
-mod reason;
 pub(crate) mod refusal;
-mod text;
 
-use pylock_run::{Sink, write_all};
+use pylock_run::{FileFault, Sink, write_all};
 use pylock_shown::push_visible;
 use std::alloc::{AllocError, Global};
 
@@ -39,4 +36,20 @@ fn note_line(alloc: Global, text: &str) -> Result<Vec<u8>, AllocError> {
     push_visible(&mut line, text)?;
     line.push(b'\n')?;
     Ok(line)
+}
+
+/// Tells which file can't be read, and why.
+pub(crate) fn tell_file<N: Sink>(alloc: Global, notes: &mut N, path: &str, fault: FileFault) {
+    let why = file_reason(fault);
+    tell_made(alloc, notes, format!(in alloc; "file: {path}: {why}"));
+}
+
+fn file_reason(fault: FileFault) -> &'static str {
+    match fault {
+        FileFault::Missing => "no such file",
+        FileFault::Directory => "a directory",
+        FileFault::Permission => "permission",
+        FileFault::Limit => "more than 268,435,456 bytes",
+        FileFault::Read | FileFault::Memory => "can't be read",
+    }
 }

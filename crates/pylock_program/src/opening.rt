@@ -16,8 +16,9 @@ ghost use Rattle.pylock_run.specs.declared.report.opening.OpenError.TheVariants 
 
 use crate::choices::make_choices;
 use crate::file::{Inputs, MachineInput};
-use crate::notes::options::NamedLock;
-use crate::refusal::Refusal;
+use crate::notes::options::{NamedLock, option_diagnostic};
+use crate::notes::refusal::unopened_told;
+use crate::refusal::{Cause, Refusal};
 use pylock_audit::{Findings, StrictError, read_strict};
 use pylock_command::{Choice, Question};
 use pylock_core::{EnvError, EnvironmentInput, Session};
@@ -98,7 +99,11 @@ pub(crate) fn open_inputs(
     match open_by(alloc, strict, &inputs.lock.bytes, inputs.machine.input()) {
         Ok(session) => Ok(session),
         Err(Unopened::Refused(OpenError::Memory)) => Err(Refusal::of_memory()),
-        Err(unopened) => Err(Refusal::of_unopened(alloc, unopened, inputs)),
+        Err(unopened) => {
+            let told = unopened_told(alloc, &unopened, inputs);
+            let cause = Cause::Unopened(unopened);
+            Err(Refusal { cause, told })
+        }
     }
 }
 
@@ -144,7 +149,9 @@ pub(crate) fn choose<'a>(
         None => Ok(()),
         Some(choice) => {
             let head = session.head();
-            Err(Refusal::of_option(alloc, choice, NamedLock { path, head }))
+            let told = option_diagnostic(alloc, NamedLock { path, head }, choice);
+            let cause = Cause::Option(choice);
+            Err(Refusal { cause, told })
         }
     }
 }

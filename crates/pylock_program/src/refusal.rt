@@ -14,21 +14,20 @@ ghost use Rattle.pylock_run.specs.declared.report.fault.RunFault.TheVariants as 
 ghost use Rattle.pylock_run.specs.declared.report.opening.OpenError.TheVariants as open_error;
 
 use crate::choices::option_words;
-use crate::file::{FileBytes, Inputs, MachineInput};
+use crate::file::{FileBytes, MachineInput};
 use crate::host::Outputs;
-use crate::notes::options::{NamedLock, option_diagnostic};
-use crate::notes::refusal::{environment_told, unopened_told};
+use crate::notes::refusal::environment_told;
 use crate::notes::{tell, tell_bytes};
 use crate::opening::Unopened;
 use crate::text::audit::push_findings;
-use crate::text::json::{push_option_json, push_refusal_json, push_side_json};
+use crate::text::json::{push_option_json, push_refusal_json, push_words};
 use pylock_audit::{LockFinding, findings_document};
 use pylock_command::{Choice, Form};
 use pylock_core::{EnvError, LockError};
 use pylock_documents::push_document;
 use pylock_messages::{Diagnostic, lock_diagnostic};
 use pylock_run::{
-    OpenError, RunFault, Sink, print, push_next_field, push_refusal, push_side_error,
+    OpenError, RunFault, Sink, lock_words, print, push_next_field, push_refusal, push_side_error,
 };
 use std::alloc::{AllocError, Global};
 
@@ -93,7 +92,7 @@ impl Cause<'_> {
 #[derive(Drop)]
 pub(crate) struct Refusal<'a> {
     pub(crate) cause: Cause<'a>,
-    told: Result<Option<Diagnostic>, AllocError>,
+    pub(crate) told: Result<Option<Diagnostic>, AllocError>,
 }
 
 impl<'a> From<AllocError> for Refusal<'a> {
@@ -116,15 +115,6 @@ impl<'a> Refusal<'a> {
             cause,
             told: Ok(None),
         }
-    }
-
-    /// There is no session on what was read.
-    pub(crate) fn of_unopened(alloc: Global, unopened: Unopened, inputs: Inputs<'_>) -> Refusal<'a>
-        ensures { result.cause ≡ cause.Unopened unopened }
-    {
-        let told = unopened_told(alloc, &unopened, inputs);
-        let cause = Cause::Unopened(unopened);
-        Refusal { cause, told }
     }
 
     /// A lock that stands alone is refused.
@@ -161,15 +151,6 @@ impl<'a> Refusal<'a> {
     {
         let told = lock_diagnostic(alloc, file.path, &file.bytes, &error);
         let cause = Cause::Side(side, error);
-        Refusal { cause, told }
-    }
-
-    /// An option for this lock is refused.
-    pub(crate) fn of_option(alloc: Global, choice: Choice<'a>, lock: NamedLock<'_>) -> Refusal<'a>
-        ensures { result.cause ≡ cause.Option choice.entry }
-    {
-        let told = option_diagnostic(alloc, lock, choice);
-        let cause = Cause::Option(choice);
         Refusal { cause, told }
     }
 }
@@ -335,7 +316,7 @@ fn push_side(
     let (form, side) = shown;
     match form {
         Form::Lines => push_side_error(out, side.word(), error),
-        Form::Json => push_side_json(alloc, out, side.word(), error, told),
+        Form::Json => push_words(alloc, out, &["lock", side.word()], lock_words(error), told),
     }
 }
 

@@ -3,7 +3,6 @@
 ghost use Rattle.std.specs.Prelude.{◌≡◌, ◌++◌, OnOk, Some, None, string_bytes};
 ghost use Rattle.pylock_command.specs.declared.form.Form.TheVariants.{Json};
 ghost use Rattle.pylock_command.specs.declared.task.FilesOutput.TheVariants.{Shown};
-ghost use Rattle.pylock_program.specs.Findings.{findings_report, findings_shown, findings_status};
 ghost use Rattle.pylock_program.specs.Inner.Answer.{PushesOr};
 ghost use Rattle.pylock_program.specs.Inner.Machine.{machine_read};
 ghost use Rattle.pylock_program.specs.Program.{Opens, OpensMachine, RepliesTelling};
@@ -24,6 +23,7 @@ use crate::export::write_files_export;
 use crate::failure::{Failure, program_end};
 use crate::file::{FileBytes, MachineInput, read_bytes, read_machine};
 use crate::host::{Host, Outputs};
+use crate::lines::list_status;
 use crate::notes::expected::{tell_marker, tell_text};
 use crate::opening::read_environment;
 use crate::refusal::{REFUSED, Refusal, push_found, push_open_error, write_refusal};
@@ -33,7 +33,7 @@ use crate::reply::texts::{
 };
 use crate::text::audit::write_findings;
 use crate::text::files::push_entries;
-use pylock_audit::{LockFinding, read_audited};
+use pylock_audit::read_audited;
 use pylock_command::{FilesOutput, Form, Machine, TargetWords, TextQuestion};
 use pylock_core::{Entry, EnvError, FaultCode, Lock, LockError};
 use pylock_documents::{environment_text, files_document, push_document};
@@ -199,7 +199,7 @@ fn write_audit<W: Sink, N: Sink>(
 {
     match read_audited(alloc, &file.bytes) {
         Ok((read, found)) => {
-            let end = write_found(alloc, form, found.as_slice(), &mut outputs.writer);
+            let end = write_findings(alloc, form, found.as_slice(), &mut outputs.writer);
             mem::forget((read, found));
             end
         }
@@ -209,37 +209,6 @@ fn write_audit<W: Sink, N: Sink>(
             write_refusal(alloc, Some(form), refusal, outputs)
         }
     }
-}
-
-/// Writes findings, and answers whether there are any.
-fn write_found<W: Sink>(
-    alloc: Global,
-    form: Form,
-    found: &[LockFinding],
-    writer: &mut W,
-) -> Result<u8, RunFault>
-    ensures { Prints (findings_report form found.now)
-        (W.value writer.old) (W.value writer.new) result }
-{
-    let status = findings_status(found);
-    match form {
-        Form::Lines => write_findings(alloc, found, status, writer),
-        Form::Json => write_findings_document(alloc, found, status, writer),
-    }
-}
-
-fn write_findings_document<W: Sink>(
-    alloc: Global,
-    found: &[LockFinding],
-    status: u8,
-    writer: &mut W,
-) -> Result<u8, RunFault>
-    ensures { Prints (record { text = findings_shown Json found.now; status = status })
-        (W.value writer.old) (W.value writer.new) result }
-{
-    let mut out = Vec::new(alloc);
-    push_found(alloc, &mut out, Form::Json, found)?;
-    print(&out, status, writer)
 }
 
 /// Pushes what `audit` prints of a lock, which is given by the bytes of its TOML text, and answers
@@ -255,18 +224,11 @@ pub fn push_audit(
     match read_audited(alloc, lock) {
         Ok((_, found)) => {
             push_found(alloc, out, form, found.as_slice())?;
-            Ok(findings_status(found.as_slice()))
+            Ok(list_status(found.as_slice()))
         }
         Err(LockError::Memory) => Err(AllocError),
         Err(error) => push_refused_lock(alloc, out, form, error),
     }
-}
-
-/// Whether there are any.
-fn findings_status(found: &[LockFinding]) -> u8
-    ensures { result ≡ findings_status found.now }
-{
-    if found.is_empty() { 0 } else { 1 }
 }
 
 // ---- a marker on a machine

@@ -7,8 +7,6 @@ use Rattle.pylock_documents.specs.Documents.{refused_line_rows, refused_rows}
 use Rattle.pylock_documents.specs.Written.{document_text}
 use Rattle.pylock_json.specs.Json.{Row, members_of, object_of, there}
 use Rattle.pylock_messages.specs.Diagnostic.{DiagnosticValue}
-use Rattle.pylock_readers.specs.declared.error.EnvError.{EnvError}
-use Rattle.pylock_readers.specs.declared.error.LockError.{LockError}
 use Rattle.pylock_run.specs.Text.Refusal.{environment_words, line_word, lock_words}
 use Rattle.pylock_run.specs.declared.line.refusal.LineRefusal.{LineRefusal}
 use Rattle.pylock_run.specs.declared.report.opening.OpenError.{OpenError}
@@ -25,20 +23,11 @@ json_text rows = document_text (members_of rows)
 unfoldable pub words_json : List (List ℕ) → Option DiagnosticValue → List ℕ
 words_json words told = json_text (refused_rows words told)
 
-abbrev pub lock_json : LockError → Option DiagnosticValue → List ℕ
-lock_json error = words_json (codes "lock" ∷ lock_words error)
-
--- the same of one of two locks: which it is stands before the words
-abbrev pub side_json : List ℕ → LockError → Option DiagnosticValue → List ℕ
-side_json side error = words_json (codes "lock" ∷ side ∷ lock_words error)
-
-abbrev pub environment_json : EnvError → Option DiagnosticValue → List ℕ
-environment_json error = words_json (codes "environment" ∷ environment_words error)
-
 -- out of memory is no refusal, and is never printed
 abbrev pub refusal_json : OpenError → Option DiagnosticValue → List ℕ
-refusal_json (open_error.Lock error) told = lock_json error told
-refusal_json (open_error.Environment error) told = environment_json error told
+refusal_json (open_error.Lock error) told = words_json (codes "lock" ∷ lock_words error) told
+refusal_json (open_error.Environment error) told =
+    words_json (codes "environment" ∷ environment_words error) told
 refusal_json open_error.Memory told = []
 
 -- a line of the input that is refused: the word of its refusal, and its number from 1

@@ -1,12 +1,14 @@
-//! What a person is told of a fault.
+//! What a person is told of a fault: where it is, and why.
 
-use crate::notes::reason::fault_reason;
 use crate::notes::tell_made;
 use pylock_command::Machine;
-use pylock_core::{Entry, FaultCode, Session, fault_word};
+use pylock_core::{Entry, Fate, FaultCode, Policy, Session, fault_word};
+use pylock_documents::fault_detail;
 use pylock_run::Sink;
+use pylock_shown::Shown;
 use pymark_core::{EvalFault, Marker, Var};
 use std::alloc::{AllocError, Global};
+use std::fmt::Write;
 
 /// Tells where the fault of an answer is, and why: at the entry of this number, or at the head. A
 /// variable that has no text may be given by an option, which is named; and so is the release that
@@ -75,21 +77,13 @@ fn push_setting(
 /// The variable without a text that the marker of the entry reads, or the first marker of the head
 /// that isn't false.
 fn unset_at(alloc: Global, session: &Session, number: u32) -> Result<Option<Var>, AllocError> {
-    let Some(entry) = session.entry(number) else {
-        return unset_in_any(alloc, session, session.head().environments());
-    };
-    match entry.marker() {
-        Some(marker) => unset_in(alloc, session, marker),
-        None => Ok(None),
+    if let Some(entry) = session.entry(number) {
+        return match entry.marker() {
+            Some(marker) => unset_in(alloc, session, marker),
+            None => Ok(None),
+        };
     }
-}
-
-fn unset_in_any(
-    alloc: Global,
-    session: &Session,
-    markers: &[Marker],
-) -> Result<Option<Var>, AllocError> {
-    for marker in markers {
+    for marker in session.head().environments() {
         if let Some(variable) = unset_in(alloc, session, marker)? {
             return Ok(Some(variable));
         }
@@ -109,26 +103,18 @@ fn unset_in(alloc: Global, session: &Session, marker: &Marker) -> Result<Option<
 
 /// Whether the word names a release of Python by two numbers, as `3.12` and `3.13t`.
 fn names_no_micro(python: &str) -> bool {
-    match python.split_once('.') {
-        Some((_, rest)) => !rest.contains("."),
-        None => false,
-    }
+    python
+        .split_once('.')
+        .is_some_and(|(_, rest)| !rest.contains("."))
 }
 
 /// Whether the fault may come from the third number of Python's release.
 fn asks_for_the_micro(session: &Session, number: u32, code: FaultCode) -> bool {
     matches!(code, FaultCode::PythonNotMet)
         || match session.entry(number) {
-            Some(entry) => entry_reads_the_release(entry),
+            Some(entry) => entry.marker().is_some_and(reads_the_release),
             None => session.head().environments().iter().any(reads_the_release),
         }
-}
-
-fn entry_reads_the_release(entry: &Entry) -> bool {
-    match entry.marker() {
-        Some(marker) => reads_the_release(marker),
-        None => false,
-    }
 }
 
 fn reads_the_release(marker: &Marker) -> bool {
@@ -138,13 +124,82 @@ fn reads_the_release(marker: &Marker) -> bool {
 
 /// Adds which release the word stands for.
 fn push_release(text: &mut String, python: &str) -> Result<(), AllocError> {
-    let release = match python.strip_suffix("t") {
-        Some(release) => release,
-        None => python,
-    };
+    let release = python.strip_suffix("t").unwrap_or(python);
     text.push_str("; --python ")?;
     text.push_str(python)?;
     text.push_str(" stands for ")?;
     text.push_str(release)?;
     text.push_str(".0")
+}
+
+// ---- why
+
+/// Why the entry of this number, or the head, has its fault: its detail, with the Python that isn't
+/// met behind it; where nothing is to install from, why no file is.
+fn fault_reason(
+    alloc: Global,
+    session: &Session,
+    number: u32,
+    code: FaultCode,
+) -> Result<Option<String>, AllocError> {
+    match (session.entry(number), session.fate(number)) {
+        (Some(entry), Some(Fate::NoFile(policy))) => {
+            let mut text = wheels_reason(alloc, entry.wheels().len(), policy)?;
+            text.push_str(sdist_reason(entry))?;
+            Ok(Some(text))
+        }
+        _ => condition_reason(alloc, session, number, code),
+    }
+}
+
+fn condition_reason(
+    alloc: Global,
+    session: &Session,
+    number: u32,
+    code: FaultCode,
+) -> Result<Option<String>, AllocError> {
+    match (code, fault_detail(alloc, session, number, code)?) {
+        (FaultCode::PythonNotMet, Some(set)) => Ok(Some(python_reason(alloc, session, set)?)),
+        (FaultCode::PythonUnknown, Some(set)) if set.is_empty() => Ok(None),
+        (_, detail) => Ok(detail),
+    }
+}
+
+/// The set of a Python check, unless it is empty, and the Python that it was judged on.
+fn python_reason(alloc: Global, session: &Session, set: String) -> Result<String, AllocError> {
+    match session.environment().get(Var::PythonFullVersion) {
+        Some(python) if set.is_empty() => {
+            let python = Shown(python);
+            format!(in alloc; "this environment's Python is {python}")
+        }
+        Some(python) => {
+            let python = Shown(python);
+            format!(in alloc; "{set}, and this environment's Python is {python}")
+        }
+        None => Ok(set),
+    }
+}
+
+// ---- an entry without a file to install
+
+/// Why no wheel of an entry is installed under the policy of its name.
+fn wheels_reason(alloc: Global, count: usize, policy: Policy) -> Result<String, AllocError> {
+    match (count, policy) {
+        (0, _) => String::from_str(alloc, "it has no wheel"),
+        (1, Policy::Source) => String::from_str(alloc, "its only wheel is excluded by --no-binary"),
+        (_, Policy::Source) => format!(in alloc; "its {count} wheels are excluded by --no-binary"),
+        (1, _) => String::from_str(alloc, "its only wheel doesn't fit this environment"),
+        _ => format!(in alloc; "none of its {count} wheels fits this environment"),
+    }
+}
+
+/// What is told behind the wheels. An sdist is installed but under the policy `wheel`.
+fn sdist_reason(entry: &Entry) -> &'static str {
+    if entry.sdist().is_some() {
+        ", and its sdist is excluded by --only-binary"
+    } else if entry.wheels().is_empty() {
+        ", and no sdist"
+    } else {
+        ", and it has no sdist"
+    }
 }

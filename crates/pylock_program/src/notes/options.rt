@@ -4,7 +4,7 @@
 use crate::choices::{option_words, split_at_equals};
 use crate::notes::tell_made;
 use pylock_command::Choice;
-use pylock_core::{Head, Session};
+use pylock_core::{Head, HeadNames, Session};
 use pylock_messages::Diagnostic;
 use pylock_run::Sink;
 use pylock_shown::push_hidden;
@@ -52,11 +52,11 @@ fn refusal_reason(
     let (path, head) = (lock.path, lock.head);
     match choice {
         Choice::Extra(name) if is_name(name) => {
-            let known = known_names(alloc, "extra", extras_of(alloc, head)?)?;
+            let known = known_names(alloc, "extra", &[head.extras()])?;
             format!(in alloc; "not an extra of {path}; {known}")
         }
         Choice::Group(name) | Choice::NoGroup(name) if is_name(name) => {
-            let known = known_names(alloc, "group", groups_of(alloc, head)?)?;
+            let known = known_names(alloc, "group", &[head.groups(), head.default_groups()])?;
             format!(in alloc; "not a group of {path}; {known}")
         }
         Choice::Set(text) => set_refusal_reason(alloc, text),
@@ -68,28 +68,15 @@ fn set_refusal_reason(alloc: Global, text: &str) -> Result<String, AllocError> {
     if split_at_equals(text).is_none() {
         return String::from_str(alloc, "no =");
     }
-    let mut names = Vec::new(alloc);
-    for variable in Var::all() {
-        names.push(variable.name())?;
-    }
+    let names: Vec<&str> = Var::all()
+        .iter()
+        .map(|variable| variable.name())
+        .collect(alloc)?;
     let names = names.join(alloc, ", ")?;
     format!(in alloc; "no such variable; the variables are: {names}")
 }
 
 // ---- the names that a lock has
-
-fn extras_of(alloc: Global, head: &Head) -> Result<Vec<&str>, AllocError> {
-    let mut names = Vec::new(alloc);
-    push_known(&mut names, head.extras().as_slice())?;
-    Ok(names)
-}
-
-fn groups_of(alloc: Global, head: &Head) -> Result<Vec<&str>, AllocError> {
-    let mut names = Vec::new(alloc);
-    push_known(&mut names, head.groups().as_slice())?;
-    push_known(&mut names, head.default_groups().as_slice())?;
-    Ok(names)
-}
 
 /// Adds names that aren't there yet, until one more is there than is told.
 fn push_known<'a>(known: &mut Vec<&'a str>, names: &'a [String]) -> Result<(), AllocError> {
@@ -97,29 +84,24 @@ fn push_known<'a>(known: &mut Vec<&'a str>, names: &'a [String]) -> Result<(), A
         if known.len() > MOST_NAMES {
             return Ok(());
         }
-        if !is_known(known, name.as_str()) {
+        if !known.iter().any(|other| *other == name.as_str()) {
             known.push(name.as_str())?;
         }
     }
     Ok(())
 }
 
-fn is_known(known: &[&str], name: &str) -> bool {
-    known.iter().any(|other| *other == name)
-}
-
-/// Which names of a kind a lock has, at most as many as are told.
-fn known_names(alloc: Global, kind: &str, names: Vec<&str>) -> Result<String, AllocError> {
+/// Which names of a kind a lock has in these lists, at most as many as are told.
+fn known_names(alloc: Global, kind: &str, lists: &[&HeadNames]) -> Result<String, AllocError> {
+    let mut names = Vec::new(alloc);
+    for list in lists {
+        push_known(&mut names, list.as_slice())?;
+    }
+    let shown = first_names(alloc, &names)?;
     match names.len() {
         0 => format!(in alloc; "it has no {kind}s"),
-        1 => {
-            let name = first_names(alloc, &names)?;
-            format!(in alloc; "its only {kind} is {name}")
-        }
-        _ => {
-            let names = first_names(alloc, &names)?;
-            format!(in alloc; "its {kind}s are: {names}")
-        }
+        1 => format!(in alloc; "its only {kind} is {shown}"),
+        _ => format!(in alloc; "its {kind}s are: {shown}"),
     }
 }
 
@@ -169,12 +151,9 @@ fn tell_half_set<N: Sink>(alloc: Global, notes: &mut N, set: Var, left: Var) {
 
 /// Whether one of the options sets the variable.
 fn sets_variable(choices: &[Choice<'_>], variable: Var) -> bool {
-    for choice in choices {
-        if variable_set_by(*choice) == Some(variable) {
-            return true;
-        }
-    }
-    false
+    choices
+        .iter()
+        .any(|choice| variable_set_by(*choice) == Some(variable))
 }
 
 /// The variable that an option sets.
@@ -203,12 +182,9 @@ fn tell_missing<N: Sink>(alloc: Global, notes: &mut N, session: &Session, choice
 /// Whether an entry has the name, whose normal form counts.
 fn has_entry(alloc: Global, session: &Session, name: &str) -> Result<bool, AllocError> {
     let name = normal_name(alloc, name)?;
-    for entry in session.entries() {
-        if let Some(entry) = entry {
-            if entry.name() == name.as_str() {
-                return Ok(true);
-            }
-        }
-    }
-    Ok(false)
+    Ok(
+        session.entries().iter().any(|entry| entry
+            .as_ref()
+            .is_some_and(|entry| entry.name() == name.as_str())),
+    )
 }

@@ -5,10 +5,9 @@ ghost use Rattle.std.specs.Prelude.{map, string_bytes};
 ghost use Rattle.pyver_core.specs.Name.{normal_name};
 ghost use Rattle.pylock_program.specs.Reply.{admits_answer, answered, fault_report, match_answer};
 ghost use Rattle.pylock_program.specs.Reply.{name_answer, names_text, refused_report, reply_of};
-ghost use Rattle.pylock_program.specs.Reply.{requirement_answer, requirement_line};
-ghost use Rattle.pylock_program.specs.Reply.{requirement_shown, sdist_answer, sdist_line};
-ghost use Rattle.pylock_program.specs.Reply.{sdist_shown, text_shown, truth_shown};
-ghost use Rattle.pylock_program.specs.Reply.{version_answer, wheel_answer, wheel_line, wheel_shown};
+ghost use Rattle.pylock_program.specs.Reply.{requirement_answer, requirement_shown};
+ghost use Rattle.pylock_program.specs.Reply.{sdist_answer, sdist_shown, text_shown, truth_shown};
+ghost use Rattle.pylock_program.specs.Reply.{version_answer, wheel_answer, wheel_shown};
 ghost use Rattle.pylock_run.specs.Report.Print.{Pushes};
 ghost use Rattle.pylock_run.specs.Text.Field.{field};
 
@@ -124,21 +123,10 @@ fn push_requirement_in(
     ensures { Pushes out.old.items out.new.items
         (answered (requirement_shown form requirement.now)) result }
 {
-    match form {
-        Form::Lines => push_requirement_line(alloc, out, requirement)?,
-        Form::Json => push_document(alloc, out, requirement_document(alloc, requirement)?)?,
+    if matches!(form, Form::Json) {
+        push_document(alloc, out, requirement_document(alloc, requirement)?)?;
+        return Ok(0);
     }
-    Ok(0)
-}
-
-fn push_requirement_line(
-    alloc: Global,
-    out: &mut Vec<u8>,
-    requirement: &Requirement,
-) -> Result<(), AllocError>
-    ensures { OnOk result (out.new.items
-        ≡ out.old.items ++ requirement_line requirement.now) }
-{
     let name = normal_name(alloc, requirement.name())?;
     push_field(out, Some(name.as_str()))?;
     push_extras(alloc, out, requirement.extras())?;
@@ -146,7 +134,7 @@ fn push_requirement_line(
     push_next_field(out, requirement.url())?;
     push_next_field(out, requirement.marker().map(|marker| marker.text()))?;
     out.push(b'\n')?;
-    Ok(())
+    Ok(0)
 }
 
 /// Pushes a TAB and the field of the extras.
@@ -201,16 +189,10 @@ fn push_wheel_in(
 ) -> Result<u8, AllocError>
     ensures { Pushes out.old.items out.new.items (answered (wheel_shown form wheel.now)) result }
 {
-    match form {
-        Form::Lines => push_wheel_line(alloc, out, wheel)?,
-        Form::Json => push_document(alloc, out, wheel_document(alloc, wheel)?)?,
+    if matches!(form, Form::Json) {
+        push_document(alloc, out, wheel_document(alloc, wheel)?)?;
+        return Ok(0);
     }
-    Ok(0)
-}
-
-fn push_wheel_line(alloc: Global, out: &mut Vec<u8>, wheel: &WheelName) -> Result<(), AllocError>
-    ensures { OnOk result (out.new.items ≡ out.old.items ++ wheel_line wheel.now) }
-{
     let name = normal_name(alloc, wheel.name())?;
     push_field(out, Some(name.as_str()))?;
     push_next_field(out, Some(wheel.version().text()))?;
@@ -218,7 +200,7 @@ fn push_wheel_line(alloc: Global, out: &mut Vec<u8>, wheel: &WheelName) -> Resul
     let tags = tags_text(alloc, wheel.tags())?;
     push_next_field(out, Some(tags.as_str()))?;
     out.push(b'\n')?;
-    Ok(())
+    Ok(0)
 }
 
 pub(crate) fn push_sdist(
@@ -247,20 +229,14 @@ fn push_sdist_in(
 ) -> Result<u8, AllocError>
     ensures { Pushes out.old.items out.new.items (answered (sdist_shown form sdist.now)) result }
 {
-    match form {
-        Form::Lines => push_sdist_line(out, sdist)?,
-        Form::Json => push_document(alloc, out, sdist_document(alloc, sdist)?)?,
+    if matches!(form, Form::Json) {
+        push_document(alloc, out, sdist_document(alloc, sdist)?)?;
+        return Ok(0);
     }
-    Ok(0)
-}
-
-fn push_sdist_line(out: &mut Vec<u8>, sdist: &SdistName) -> Result<(), AllocError>
-    ensures { OnOk result (out.new.items ≡ out.old.items ++ sdist_line sdist.now) }
-{
     push_field(out, Some(sdist.name()))?;
     push_next_field(out, Some(sdist.version().text()))?;
     out.push(b'\n')?;
-    Ok(())
+    Ok(0)
 }
 
 /// An answer of one text: the one field of its line, or the member of this key.

@@ -1,17 +1,14 @@
 //! What is printed in place of an answer, as JSON documents.
 
-ghost use Rattle.std.specs.Prelude.{◌≡◌, ◌++◌, ◌∷◌, [], IfOk, OnOk, decimal, map, option_map};
+ghost use Rattle.std.specs.Prelude.{◌≡◌, ◌++◌, IfOk, OnOk, decimal, map, option_map};
 ghost use Rattle.std.specs.Prelude.{string_bytes};
 ghost use Rattle.std.specs.Option.{option_copied};
-ghost use Rattle.pylock_program.specs.Text.Json.{environment_json, fault_json, lock_json};
-ghost use Rattle.pylock_program.specs.Text.Json.{line_refusal_json};
-ghost use Rattle.pylock_program.specs.Text.Json.{option_json, refusal_json, side_json};
-ghost use Rattle.pylock_program.specs.Text.Json.{words_json};
+ghost use Rattle.pylock_program.specs.Text.Json.{fault_json, line_refusal_json, option_json};
+ghost use Rattle.pylock_program.specs.Text.Json.{refusal_json, words_json};
 ghost use Rattle.pylock_run.specs.Text.Refusal.{refusal_words};
 
 use crate::choices::option_words;
 use pylock_command::Choice;
-use pylock_core::{EnvError, LockError};
 use pylock_documents::{push_document, refused_document, refused_line_document};
 use pylock_json::Object;
 use pylock_messages::Diagnostic;
@@ -32,48 +29,8 @@ pub(crate) fn push_refused(
     push_document(alloc, out, refused_document(alloc, words, told)?)
 }
 
-/// Pushes the document of a refused lock.
-fn push_lock_json(
-    alloc: Global,
-    out: &mut Vec<u8>,
-    error: &LockError,
-    told: Option<&Diagnostic>,
-) -> Result<(), AllocError>
-    ensures { OnOk result (out.new.items
-        ≡ out.old.items ++ lock_json error.now (option_copied told.entry)) }
-{
-    push_words(alloc, out, &["lock"], lock_words(error), told)
-}
-
-/// Pushes the document of a refused lock that is one of two: `side` tells which it is.
-pub(crate) fn push_side_json(
-    alloc: Global,
-    out: &mut Vec<u8>,
-    side: &str,
-    error: &LockError,
-    told: Option<&Diagnostic>,
-) -> Result<(), AllocError>
-    ensures { OnOk result (out.new.items ≡ out.old.items
-        ++ side_json side.now error.now (option_copied told.entry)) }
-{
-    push_words(alloc, out, &["lock", side], lock_words(error), told)
-}
-
-/// Pushes the document of a refused environment.
-fn push_environment_json(
-    alloc: Global,
-    out: &mut Vec<u8>,
-    error: &EnvError,
-    told: Option<&Diagnostic>,
-) -> Result<(), AllocError>
-    ensures { OnOk result (out.new.items
-        ≡ out.old.items ++ environment_json error.now (option_copied told.entry)) }
-{
-    push_words(alloc, out, &["environment"], environment_words(error), told)
-}
-
 /// Pushes the document of a refusal whose words stand behind these.
-fn push_words(
+pub(crate) fn push_words(
     alloc: Global,
     out: &mut Vec<u8>,
     front: &[&str],
@@ -134,8 +91,10 @@ pub(crate) fn push_refusal_json(
         ≡ out.old.items ++ refusal_json error.now (option_copied told.entry)) }
 {
     match error {
-        OpenError::Lock(error) => push_lock_json(alloc, out, error, told),
-        OpenError::Environment(error) => push_environment_json(alloc, out, error, told),
+        OpenError::Lock(error) => push_words(alloc, out, &["lock"], lock_words(error), told),
+        OpenError::Environment(error) => {
+            push_words(alloc, out, &["environment"], environment_words(error), told)
+        }
         OpenError::Memory => Ok(()),
     }
 }
@@ -180,21 +139,7 @@ pub(crate) fn push_option_json(
         ≡ out.old.items ++ option_json choice.entry (option_copied told.entry)) }
 {
     match option_words(choice) {
-        (word, Some(text)) => push_refused_pair(alloc, out, word, text, told),
+        (word, Some(text)) => push_refused(alloc, out, &[word, text], told),
         (word, None) => push_refused(alloc, out, &[word], told),
     }
-}
-
-/// Pushes the document of two words, whose lifetimes become one here, as an array wants.
-fn push_refused_pair<'a>(
-    alloc: Global,
-    out: &mut Vec<u8>,
-    word: &'a str,
-    text: &'a str,
-    told: Option<&Diagnostic>,
-) -> Result<(), AllocError>
-    ensures { OnOk result (out.new.items
-        ≡ out.old.items ++ words_json (word.now ∷ text.now ∷ []) (option_copied told.entry)) }
-{
-    push_refused(alloc, out, &[word, text], told)
 }
