@@ -12,15 +12,17 @@ PyObject *normal_name(State *state, PyObject *text)
     if (!text_of(text, &view)) return NULL;
     int32_t code = result_of_text(pylock_name, &view, &result);
     bool is_ascii = view.length == (size_t)PyUnicode_GetLength(text);
-    PyObject *normal = NULL, *small = NULL;
-    if (code == PYLOCK_OK)
-        normal = str_of_result(&result, text, &view);
-    else
+    PyObject *normal = NULL;
+    if (code != PYLOCK_OK)
         raise_refusal(state, code, text, "name");
+    else if (is_as_written(&result, &view))
+        normal = exact_text(text);
+    else
+        normal = is_ascii ? PyUnicode_DecodeLatin1((const char *)result.bytes, (Py_ssize_t)result.length, NULL) : str_of(result.bytes, result.length);
     result_done(&result);
     text_done(&view);
     if (normal == NULL || is_ascii) return normal;
-    small = PyObject_CallMethod(normal, "lower", NULL);
+    PyObject *small = PyObject_CallMethod(normal, "lower", NULL);
     Py_DECREF(normal);
     return small;
 }

@@ -591,11 +591,26 @@ static PyObject *made_shown(State *state, PyObject *items)
     return shown;
 }
 
+/* Whether `str` gives the text as it is: that of one specifier, with neither white space nor a comma. */
+static bool is_shown(const Set *set)
+{
+    static const char others[] = " \t\n\v\f\r,";
+    Text view;
+    if (set->judge.count != 1 || set->text == NULL || !PyUnicode_Check(set->text) || items_in(set) != NULL) return false;
+    if (!text_of(set->text, &view)) return false;
+    bool is_it = true;
+    for (size_t place = 0; is_it && place < view.length; place++) is_it = memchr(others, view.bytes[place], sizeof others - 1) == NULL;
+    text_done(&view);
+    return is_it;
+}
+
 static PyObject *set_str(PyObject *self)
 {
     Set *set = (Set *)self;
     if (set->asked != NULL && set->asked->shown != NULL) return hold(set->asked->shown);
     if (judge_lets_all(&set->judge)) return PyUnicode_FromString("");
+    if (is_shown(set)) return hold(set->text);
+    if (PyErr_Occurred()) return NULL;
     PyObject *items = set_items(self);
     PyObject *shown = items == NULL ? NULL : made_shown(set->judge.state, items);
     /* as in the text */
@@ -630,8 +645,22 @@ static PyObject *distinct_items(PyObject *self)
     return distinct;
 }
 
+/* Whether both are equal, a Told, as far as it can be seen without their specifiers. */
+static int seen_equal(const Set *left, const Set *right)
+{
+    bool have_text = left->text != NULL && right->text != NULL;
+    if ((left->text == NULL && items_in(left) == NULL) || (right->text == NULL && items_in(right) == NULL)) return UNKNOWN;
+    if (left == right) return YES;
+    if (left->judge.count == 0 || right->judge.count == 0) return left->judge.count == right->judge.count ? YES : NO;
+    if (!have_text || items_in(left) != NULL || items_in(right) != NULL) return UNKNOWN;
+    if (!PyUnicode_Check(left->text) || !PyUnicode_Check(right->text)) return UNKNOWN;
+    return PyUnicode_Compare(left->text, right->text) == 0 ? YES : UNKNOWN;
+}
+
 static PyObject *compared(PyObject *left, PyObject *right, int how)
 {
+    int seen = seen_equal((Set *)left, (Set *)right);
+    if (seen != UNKNOWN) return PyBool_FromLong((seen == YES) == (how == Py_EQ));
     PyObject *one = distinct_items(left), *other = one == NULL ? NULL : distinct_items(right);
     PyObject *told = other == NULL ? NULL : PyObject_RichCompare(one, other, how);
     Py_XDECREF(other);

@@ -227,16 +227,10 @@ static bool raise_common(PyObject *maker, int32_t code)
     return true;
 }
 
-/* The places of what an exception is made of: its class, its attributes, what its message has before the text and behind it, and
- * the name of the attribute that keeps the text, or None. */
-enum { ERROR, ATTRIBUTES, BEFORE, BEHIND, SOURCE, TOLD };
-
+/* Whether the Python layer told what an exception is made of: a tuple that begins with its class. */
 static bool is_made_of(PyObject *told)
 {
-    if (!PyTuple_CheckExact(told) || PyTuple_Size(told) != TOLD) return false;
-    return PyExceptionClass_Check(PyTuple_GetItem(told, ERROR)) && PyDict_CheckExact(PyTuple_GetItem(told, ATTRIBUTES)) &&
-           PyUnicode_CheckExact(PyTuple_GetItem(told, BEFORE)) && PyUnicode_CheckExact(PyTuple_GetItem(told, BEHIND)) &&
-           (PyUnicode_CheckExact(PyTuple_GetItem(told, SOURCE)) || PyTuple_GetItem(told, SOURCE) == Py_None);
+    return PyTuple_Check(told) && PyTuple_Size(told) > 0 && PyExceptionClass_Check(PyTuple_GetItem(told, 0));
 }
 
 static bool is_kind(const char *kind, const char *word)
@@ -267,88 +261,15 @@ static PyObject *told_refusal(State *state, int32_t code, PyObject *text, const 
     return NULL;
 }
 
-enum { LONGEST_SHOWN = 200 };
-
-/* A text as a message shows it: the beginning of a long one. */
-static PyObject *shown_text(PyObject *text)
-{
-    if (!PyUnicode_Check(text) || PyUnicode_GetLength(text) <= LONGEST_SHOWN) return hold(text);
-    PyObject *beginning = PyUnicode_Substring(text, 0, LONGEST_SHOWN);
-    PyObject *shown = beginning == NULL ? NULL : PyUnicode_FromFormat("%U...", beginning);
-    Py_XDECREF(beginning);
-    return shown;
-}
-
-/* An exception of what was told, with a message, without the `__init__` of its class, which does no more. The text that is
- * refused is kept where `str` of the exception looks at it. */
-static PyObject *new_refusal(PyObject *told, PyObject *message, PyObject *text)
-{
-    PyTypeObject *error = (PyTypeObject *)PyTuple_GetItem(told, ERROR);
-    newfunc make = (newfunc)PyType_GetSlot(error, Py_tp_new);
-    PyObject *arguments = make == NULL ? NULL : PyTuple_Pack(1, message), *source = PyTuple_GetItem(told, SOURCE);
-    PyObject *own = arguments == NULL ? NULL : PyDict_Copy(PyTuple_GetItem(told, ATTRIBUTES));
-    PyObject *exception = own == NULL ? NULL : make(error, arguments, NULL);
-    bool is_good = exception != NULL && (source == Py_None || PyDict_SetItem(own, source, text) == 0);
-    if (!is_good || PyObject_GenericSetDict(exception, own, NULL) < 0) Py_CLEAR(exception);
-    Py_XDECREF(arguments);
-    Py_XDECREF(own);
-    return exception;
-}
-
-/* Finds bytes that aren't ASCII, and those of ASCII that `repr` doesn't show as they are between quotes. */
-static inline uint64_t escaped_of(uint64_t word)
-{
-    uint64_t quote = word ^ '\'' * EACH_BYTE, backslash = word ^ '\\' * EACH_BYTE;
-    return word | (word + EACH_BYTE) | (word - ' ' * EACH_BYTE) | (quote - EACH_BYTE) | (backslash - EACH_BYTE);
-}
-
-/* Puts a text of ASCII behind others: false where there is no room, of another text, or with an exception. */
-static bool add_text(Result *message, PyObject *text)
-{
-    Text view;
-    if (!text_of(text, &view)) return false;
-    bool has_room = view.length <= RESULT_ROOM - message->length && view.length == (size_t)PyUnicode_GetLength(text);
-    if (has_room) memcpy(message->near + message->length, view.bytes, view.length);
-    message->length += has_room ? view.length : 0;
-    text_done(&view);
-    return has_room;
-}
-
-/* The same of its `repr`, where that is the text with a quote before and behind it; of others false. */
-static bool add_quoted(Result *message, PyObject *text)
-{
-    Text view;
-    if (!PyUnicode_CheckExact(text) || !text_of(text, &view)) return false;
-    bool is_one = view.length + 2 <= RESULT_ROOM - message->length && has_none(view.bytes, view.length, escaped_of);
-    if (is_one) {
-        uint8_t *at = message->near + message->length;
-        at[0] = at[view.length + 1] = '\'';
-        memcpy(at + 1, view.bytes, view.length);
-        message->length += view.length + 2;
-    }
-    text_done(&view);
-    return is_one;
-}
-
-/* The message of two texts as they are and one or two as their `repr` is; most are short. */
-static PyObject *message_of(PyObject *before, PyObject *shown, PyObject *behind, PyObject *other)
-{
-    Result message;
-    message.length = 0;
-    if (add_text(&message, before) && add_quoted(&message, shown) && add_text(&message, behind) && (other == NULL || add_quoted(&message, other)))
-        return PyUnicode_DecodeLatin1((const char *)message.near, (Py_ssize_t)message.length, NULL);
-    if (PyErr_Occurred()) return NULL;
-    return other == NULL ? PyUnicode_FromFormat("%U%R%U", before, shown, behind)
-                         : PyUnicode_FromFormat("%U%R%U%R", before, shown, behind, other);
-}
-
+/* The exception of what was told and one or two texts, without the `__init__` of its class, which does no more: these are its
+ * arguments, of which the class makes its message and its attributes when it is asked for them. */
 static PyObject *refusal_of(PyObject *told, PyObject *text, PyObject *other)
 {
-    PyObject *shown = shown_text(text);
-    PyObject *message = shown == NULL ? NULL : message_of(PyTuple_GetItem(told, BEFORE), shown, PyTuple_GetItem(told, BEHIND), other);
-    PyObject *exception = message == NULL ? NULL : new_refusal(told, message, text);
-    Py_XDECREF(shown);
-    Py_XDECREF(message);
+    PyTypeObject *error = (PyTypeObject *)PyTuple_GetItem(told, 0);
+    newfunc make = (newfunc)PyType_GetSlot(error, Py_tp_new);
+    PyObject *arguments = make == NULL ? NULL : PyTuple_Pack(other == NULL ? 2 : 3, told, text, other);
+    PyObject *exception = arguments == NULL ? NULL : make(error, arguments, NULL);
+    Py_XDECREF(arguments);
     return exception;
 }
 

@@ -690,17 +690,25 @@ static bool made_of_parts(PyObject *const *parts, Made *made)
            (parts[LOCAL] == Py_None || add_local(made, parts[LOCAL]));
 }
 
-/* The version of a text that was written of parts, as the library reads it, which finds whether that is a normal form and so has
- * these parts. NULL, maybe without an exception, of others. */
-static PyObject *version_of_made(State *state, const Made *made)
+/* The version of a text that is its normal form, as the library finds. NULL, maybe without an exception, of another text. */
+static PyObject *version_if_normal(State *state, PyObject *text, const Text *view)
 {
-    PyObject *text = PyUnicode_DecodeLatin1(made->text, (Py_ssize_t)made->length, NULL);
-    Version *version = text == NULL ? NULL : empty_version(state, state->version_class);
-    Text view = {(const uint8_t *)made->text, made->length, NULL};
     int32_t code;
-    if (version != NULL && !(find_whole(version, text, &view, &code) && version->is_normal)) Py_CLEAR(version);
-    Py_XDECREF(text);
+    Version *version = empty_version(state, state->version_class);
+    if (version != NULL && !(find_whole(version, text, view, &code) && version->is_normal)) Py_CLEAR(version);
     return (PyObject *)version;
+}
+
+/* The version of a text that was written of parts, as the library reads it: without a local part the text is a normal form. NULL,
+ * maybe without an exception, of one that may have other parts. */
+static PyObject *version_of_made(State *state, const Made *made, bool has_local)
+{
+    Text view = {(const uint8_t *)made->text, made->length, NULL};
+    PyObject *text = PyUnicode_DecodeLatin1(made->text, (Py_ssize_t)made->length, NULL);
+    if (text == NULL) return NULL;
+    PyObject *version = has_local ? version_if_normal(state, text, &view) : version_of_normal(state, text);
+    Py_DECREF(text);
+    return version;
 }
 
 /* Puts the parts that are given by their names in their places: false where one has another name. */
@@ -743,7 +751,7 @@ static PyObject *from_parts(PyObject *self, PyObject *const *arguments, Py_ssize
     PyObject *parts[PARTS] = {zero, NULL, Py_None, Py_None, Py_None, Py_None};
     bool is_plain = self == (PyObject *)state->version_class && count == 0;
     if (is_plain && take_parts(arguments, names, parts) && parts[RELEASE] != NULL && made_of_parts(parts, &made))
-        version = version_of_made(state, &made);
+        version = version_of_made(state, &made, parts[LOCAL] != Py_None);
     Py_XDECREF(zero);
     if (version != NULL || PyErr_Occurred()) return version;
     return asked_of_layer("from_parts", self, arguments, count, names);
@@ -785,7 +793,7 @@ static PyObject *version_replace(PyObject *self, PyObject *const *arguments, Py_
     if (is_plain && take_parts(arguments, names, parts) && made_of_parts(parts, &made)) {
         int is_same = has_such_parts(version, parts) ? is_its_text(self, &made) : 0;
         if (is_same != 0) return is_same < 0 ? NULL : hold(self);
-        PyObject *other = version_of_made(state, &made);
+        PyObject *other = version_of_made(state, &made, parts[LOCAL] != Py_None);
         if (other != NULL || PyErr_Occurred()) return other;
     }
     return PyErr_Occurred() ? NULL : asked_of_layer("replaced", self, arguments, count, names);

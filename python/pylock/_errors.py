@@ -2,7 +2,7 @@
 
 from __future__ import annotations
 
-from ._typing import TYPE_CHECKING, Optional, Sequence, Tuple, Union
+from ._typing import TYPE_CHECKING, Any, Optional, Sequence, Tuple, Union
 
 if TYPE_CHECKING:
     from ._lock import Finding
@@ -41,6 +41,91 @@ class Refusal(ValueError):
             self.place = place
 
 
+# ---- what is told when it is asked for ----
+
+# the arguments of an exception as they lie in it
+_arguments: Any = vars(BaseException)["args"]
+
+
+class Told(tuple):  # type: ignore[type-arg]
+    """What a refused text's exception is made of: its class, its word, and what its message has before the text and behind it.
+
+    `_native` raises the exception with this and the text as its arguments, and with a second text where that is the end of the
+    message. What they tell is made when it is asked for: hardly a program reads it of each exception that it catches.
+    """
+
+    __slots__ = ()
+
+
+def quoted(text: object) -> str:
+    """The `repr` of a text in a message, of a long one that of its beginning."""
+    if isinstance(text, str) and str.__len__(text) > 200:
+        text = str.__getitem__(text, slice(200)) + "..."
+    return repr(text)
+
+
+def _tell(refusal: TextRefusal) -> None:
+    """Gives the exception the word, the source and the arguments that it was raised for."""
+    given = _arguments.__get__(refusal)
+    if len(given) < 2 or type(given[0]) is not Told:
+        return
+    (_, word, before, behind), text, *others = given
+    own = vars(refusal)
+    own.setdefault("word", word)
+    if isinstance(refusal, PointingRefusal):
+        own.setdefault("source", text)
+    # from here on it is told, to other threads too
+    _arguments.__set__(refusal, ("".join([before, quoted(text), behind, *map(quoted, others)]),))
+
+
+class _Later:
+    """An attribute that is told when it is asked for; its class has the usual value."""
+
+    __slots__ = ("name", "usual")
+
+    def __init__(self, name: str, usual: Optional[str]) -> None:
+        self.name = name
+        self.usual = usual
+
+    def __get__(self, refusal: Optional[TextRefusal], owner: object = None) -> Any:
+        if refusal is None:
+            return self.usual
+        _tell(refusal)
+        return vars(refusal).get(self.name, self.usual)
+
+
+class TextRefusal(Refusal):
+    """A text is refused."""
+
+    if not TYPE_CHECKING:
+        word = _Later("word", "")
+
+        @property
+        def args(self):
+            _tell(self)
+            return _arguments.__get__(self)
+
+        @args.setter
+        def args(self, args):
+            _tell(self)
+            _arguments.__set__(self, args)
+
+    def __str__(self) -> str:
+        _tell(self)
+        return super().__str__()
+
+    def __repr__(self) -> str:
+        _tell(self)
+        return super().__repr__()
+
+    def __reduce__(self) -> Union[str, Tuple[Any, ...]]:
+        _tell(self)
+        return super().__reduce__()
+
+
+# ---- where in a text it is wrong ----
+
+
 class Fault:
     """What was expected of a refused text, the stretch of its characters where that is, and two lines that point there."""
 
@@ -65,10 +150,12 @@ def fault_of(calls: Sequence[str], text: str) -> Optional[Fault]:
     return None
 
 
-class PointingRefusal(Refusal):
+class PointingRefusal(TextRefusal):
     """A text is refused, and `str` points at the place in it. `source` is the text, None where a program raises one itself."""
 
     source: Optional[str] = None
+    if not TYPE_CHECKING:
+        source = _Later("source", None)
     _calls: Sequence[str] = ()
     """The library's calls that tell what was expected of such a text."""
 
@@ -80,7 +167,10 @@ class PointingRefusal(Refusal):
         return sentence
 
 
-class InvalidVersion(Refusal):
+# ---- the exceptions ----
+
+
+class InvalidVersion(TextRefusal):
     """A text is no version (PEP 440).
 
     >>> import pylock
@@ -110,7 +200,7 @@ class InvalidMarker(PointingRefusal):
     _calls = ("marker_expected",)
 
 
-class MarkerFault(Refusal):
+class MarkerFault(TextRefusal):
     """A marker has no value in an environment. The words are those of the lock's answers, as `marker-number`."""
 
     __module__ = "pylock.markers"
@@ -135,37 +225,37 @@ class InvalidRequirement(PointingRefusal):
     _calls = ("requirement_expected",)
 
 
-class InvalidName(Refusal):
+class InvalidName(TextRefusal):
     """A text is no name of a distribution."""
 
     __module__ = "pylock.utils"
 
 
-class InvalidWheelFilename(Refusal):
+class InvalidWheelFilename(TextRefusal):
     """A text is no file name of a wheel (PEP 427)."""
 
     __module__ = "pylock.utils"
 
 
-class InvalidTarget(Refusal):
+class InvalidTarget(TextRefusal):
     """The Python or the platform of a target is none."""
 
     __module__ = "pylock"
 
 
-class InvalidSdistFilename(Refusal):
+class InvalidSdistFilename(TextRefusal):
     """A text is no file name of an sdist (PEP 625)."""
 
     __module__ = "pylock.utils"
 
 
-class InvalidTag(Refusal):
+class InvalidTag(TextRefusal):
     """A text isn't of the form python-abi-platform (PEP 425)."""
 
     __module__ = "pylock.tags"
 
 
-class UnsortedTagsError(Refusal):
+class UnsortedTagsError(TextRefusal):
     """A part of a tag has its pieces out of order (PEP 425), and order was asked for."""
 
     __module__ = "pylock.tags"
@@ -210,7 +300,7 @@ class InvalidEnvironment(InvalidLock):
     __module__ = "pylock"
 
 
-class InvalidEdit(Refusal):
+class InvalidEdit(TextRefusal):
     """An edit or an option is refused, and has changed nothing."""
 
     __module__ = "pylock"

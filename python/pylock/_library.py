@@ -21,11 +21,12 @@ from ._errors import (
     InvalidVersion,
     InvalidWheelFilename,
     MarkerFault,
-    PointingRefusal,
     Refusal,
+    Told,
     UndefinedComparison,
     UndefinedEnvironmentName,
     UnsortedTagsError,
+    quoted,
 )
 from ._typing import Any, Dict, List, Optional, Tuple, Type, Union
 
@@ -113,47 +114,30 @@ _KINDS: Dict[str, Type[Refusal]] = {
 }
 
 
-# what an exception is made of: its class, its attributes, what its message has before the text and behind it, and the name of
-# the attribute that keeps the text, or None
-_Told = Tuple[Type[Refusal], Dict[str, Any], str, str, Optional[str]]
-
-
-def _told_as(error: Type[Refusal], word: str, before: str, behind: str) -> _Told:
-    return error, {"word": word}, before, behind, "source" if issubclass(error, PointingRefusal) else None
-
-
-def _told(code: int, text: str, kind: str) -> Union[BaseException, _Told]:
+def _told(code: int, text: str, kind: str) -> Union[BaseException, Told]:
     """What the exception for a code of a call on a text is made of; one that isn't UTF-8 is refused as `syntax` of its kind.
     It is asked once for each code, which has one, but where the text was to be a name, or to be in order."""
     if kind == "order":
         if code == 65:
-            return _told_as(InvalidWheelFilename, "tags", "Invalid wheel filename: ", " (the pieces of a tag aren't in order)")
-        return _told_as(UnsortedTagsError, "tag-order", "Unsorted tag: ", " is to be ")
+            return Told((InvalidWheelFilename, "tags", "Invalid wheel filename: ", " (the pieces of a tag aren't in order)"))
+        return Told((UnsortedTagsError, "tag-order", "Unsorted tag: ", " is to be "))
     if code in _REFUSALS:
         error, word, why = _REFUSALS[code]
         if kind == "name" and error is InvalidEdit:
-            return _told_as(InvalidName, word, "name is invalid: ", "")
-        return _told_as(error, word, _WHAT[error] + ": ", " (%s)" % why if why else "")
+            return Told((InvalidName, word, "name is invalid: ", ""))
+        return Told((error, word, _WHAT[error] + ": ", " (%s)" % why if why else ""))
     if code == _native.NOT_UTF8 and kind in _KINDS:
         error = _KINDS[kind]
-        return error("%s: %s (it has half a character)" % (_WHAT[error], _shown(text)), word="syntax")
+        return error("%s: %s (it has half a character)" % (_WHAT[error], quoted(text)), word="syntax")
     return RuntimeError("pylock: the library answered %d" % code)
-
-
-def _shown(text: str) -> str:
-    return repr(text if len(text) <= 200 else text[:200] + "...")
 
 
 def _refusal(code: int, text: str, kind: str) -> BaseException:
     """The exception for a code of a call on a text."""
     told = _told(code, text, kind)
-    if isinstance(told, BaseException):
+    if not isinstance(told, Told):
         return told
-    error, attributes, before, behind, source = told
-    exception = error(before + _shown(text) + behind)
-    vars(exception).update(attributes)
-    if source is not None:
-        vars(exception)[source] = text
+    exception: BaseException = told[0].__new__(told[0], told, text)
     return exception
 
 

@@ -5,6 +5,7 @@ from typing import overload
 
 from typing_extensions import TypedDict, Unpack
 
+from ._errors import Told
 from .markers import Marker as _Marker
 from .specifiers import Specifier as _Specifier, SpecifierSet as _SpecifierSet
 from .utils import BuildTag, NormalizedName
@@ -230,7 +231,7 @@ class Session:
     def close(self) -> None: ...
 
 def use_refusals(
-    of_texts: Callable[[int, str, str], Union[BaseException, Tuple[Type[BaseException], Dict[str, Any], str, str, Optional[str]]]],
+    of_texts: Callable[[int, str, str], Union[BaseException, Told]],
     of_inputs: Callable[[int, str, Optional[bytes], Optional[bytes], bool], BaseException],
     /,
 ) -> None: ...

@@ -58,20 +58,20 @@ class DirectUrlValidationError(Exception):
         return "%s in %r" % (self.message, self.context) if self.context else self.message
 
 
-def _made(cause: Union[str, Exception], message: str, context: str) -> DirectUrlValidationError:
-    """An error as its constructor makes it of a cause, in less time."""
-    error = DirectUrlValidationError.__new__(DirectUrlValidationError, cause)  # type: ignore[call-arg]
-    error.message = message
-    error.context = context
-    return error
+# an exception of a class and of its arguments, without the constructor, which takes more time
+_new: Any = Exception.__new__
 
 
 def _wrong(message: str, key: str, above: str) -> DirectUrlValidationError:
     """The error of a key. Where there is one above, that of an inner table, its cause is the error of the inner table alone."""
-    error = _made(message, message, key)
+    error: DirectUrlValidationError = _new(DirectUrlValidationError, message)
+    error.message = message
+    error.context = key
     if not above:
         return error
-    outer = _made(error, message, above + "." + key)
+    outer: DirectUrlValidationError = _new(DirectUrlValidationError, error)
+    outer.message = message
+    outer.context = above + "." + key
     outer.__cause__ = outer.__context__ = error
     return outer
 
@@ -216,13 +216,6 @@ class DirInfo:
         return cls(editable=_value(table, "editable", bool, "dir_info"))
 
 
-def _info(table: Mapping[str, Any], inner: Any, key: str, kind: Any) -> Any:
-    """The archive, repository or folder of a document: of the inner table of the key."""
-    if type(inner) is not dict:
-        _value(table, key, abc.Mapping)
-    return kind._of(inner)
-
-
 @dataclass(frozen=True, init=False)
 class DirectUrl:
     """The URL that a distribution was installed from, and what stands there: an archive, a repository or a folder.
@@ -263,11 +256,11 @@ class DirectUrl:
         url = _required(d, "url")
         archive, vcs, folder = d.get("archive_info"), d.get("vcs_info"), d.get("dir_info")
         if archive is not None:
-            archive = _info(d, archive, "archive_info", ArchiveInfo)
+            archive = ArchiveInfo._of(archive if type(archive) is dict else _value(d, "archive_info", abc.Mapping))
         if vcs is not None:
-            vcs = _info(d, vcs, "vcs_info", VcsInfo)
+            vcs = VcsInfo._of(vcs if type(vcs) is dict else _value(d, "vcs_info", abc.Mapping))
         if folder is not None:
-            folder = _info(d, folder, "dir_info", DirInfo)
+            folder = DirInfo._of(folder if type(folder) is dict else _value(d, "dir_info", abc.Mapping))
         subdirectory = _value(d, "subdirectory", str)
         count = (archive is not None) + (vcs is not None) + (folder is not None)
         if count != 1:

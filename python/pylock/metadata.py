@@ -464,6 +464,24 @@ _BY_HEADER: Dict[str, _Field[Any]] = {field.header: field for field in _FIELDS.v
 # ---- reading ----
 
 _PARSER = email.parser.HeaderParser()
+# the end of a header: a line that is set in goes on with it
+_header_end = re.compile(r"\n(?![ \t])")
+
+
+def _read(text: str) -> Tuple[Iterable[Tuple[str, str]], str]:
+    """The headers and the body of a message, as `email` reads them, which is asked where a header has another form than most."""
+    head, _, body = text.partition("\n\n")
+    headers = []
+    for header in _header_end.split(head[:-1] if head[-1:] == "\n" else head):
+        name, colon, value = header.partition(":")
+        value = value.lstrip(" \t")
+        is_name = name.isascii() and name.isprintable() and " " not in name
+        # Pythons differ where a first line is empty
+        if not (name and colon and is_name) or "\r" in header or value[:1] == "\n":
+            message = _PARSER.parsestr(text)
+            return message.raw_items(), cast(str, message.get_payload())
+        headers.append((name, value))
+    return headers, body
 
 
 def _decoded(text: str) -> Tuple[str, bool]:
@@ -490,10 +508,10 @@ def parse_email(data: Union[bytes, str]) -> Tuple[RawMetadata, Dict[str, List[st
     if not isinstance(data, str) or not data.isascii():
         # each byte is a character to the reader of messages, which knows nothing of UTF-8
         data = (data.encode("utf-8", "surrogateescape") if isinstance(data, str) else data).decode("latin-1")
-    message = _PARSER.parsestr(data)
+    items, body = _read(data)
     headers: Dict[str, List[str]] = {}
     broken = set()
-    for header, text in message.raw_items():
+    for header, text in items:
         name = header.lower()
         value, whole = (text, True) if text.isascii() else _decoded(text)
         if name in headers:
@@ -504,15 +522,15 @@ def parse_email(data: Union[bytes, str]) -> Tuple[RawMetadata, Dict[str, List[st
             broken.add(name)
     for header, values in headers.items():
         field = _BY_HEADER.get(header)
-        value = None
+        its_raw: Any = None
         if field is not None and header not in broken:
             # of most the one text as it is
-            value = values[0] if field.form == _TEXT and len(values) == 1 else field.raw(values)
-        if field is None or value is None:
+            its_raw = values[0] if field.form == _TEXT and len(values) == 1 else field.raw(values)
+        if field is None or its_raw is None:
             unparsed[header] = values
         else:
-            raw[field.name] = value
-    body, whole = _decoded(cast(str, message.get_payload()))
+            raw[field.name] = its_raw
+    body, whole = _decoded(body)
     if not whole:
         unparsed.setdefault("description", []).append(body.encode("latin-1"))
     elif body and ("description" in raw or "description" in unparsed):

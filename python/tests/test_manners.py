@@ -104,6 +104,38 @@ class Refusals(unittest.TestCase):
                 again = pickle.loads(pickle.dumps(caught.exception))
                 self.assertEqual((type(again), str(again), again.word), (error, str(caught.exception), word))
 
+    def test_asked_in_any_order(self):
+        """What an exception tells is made when it is asked for: whatever comes first, and by copies."""
+        asks = (
+            str, repr, lambda error: error.args, lambda error: error.word, lambda error: error.source, lambda error: error.place,
+            lambda error: str(pickle.loads(pickle.dumps(error))), lambda error: copy.copy(error).source,
+            lambda error: copy.deepcopy(error).word, lambda error: pickle.loads(pickle.dumps(error, 0)).args,
+        )
+
+        def raised():
+            with refused(self, pylock.InvalidSpecifier) as caught:
+                pylock.Specifier("=>1")
+            return caught.exception
+
+        wanted = [ask(raised()) for ask in asks]
+        self.assertEqual(wanted[1:6], ["InvalidSpecifier(\"Invalid specifier: '=>1'\")", ("Invalid specifier: '=>1'",), "syntax", "=>1", None])
+        for first in asks:
+            error = raised()
+            first(error)
+            self.assertEqual([ask(error) for ask in asks], wanted)
+        error = raised()
+        error.word = "mine"
+        self.assertEqual((error.word, error.source), ("mine", "=>1"))
+        error = raised()
+        error.args = ("a", 1)
+        self.assertEqual((error.args, error.word, error.source), (("a", 1), "syntax", "=>1"))
+        for kind in (pylock.InvalidSpecifier, pylock.InvalidVersion):
+            self.assertEqual((kind.word, kind.place), ("", None))
+        self.assertIsNone(pylock.InvalidSpecifier.source)
+        with refused(self, pylock.UnsortedTagsError, "tag-order") as caught:
+            pylock.parse_tag("py3.py2-none-any", validate_order=True)
+        self.assertEqual(caught.exception.args, ("Unsorted tag: 'py3.py2' is to be 'py2.py3'",))
+
     def test_messages(self):
         """A message has the text as its `repr` is, of a long one the beginning."""
         for text in ("x", "x'y", 'x"y', "x\\y", "x\n", "x\x7f", "\xe9", "\u0100", "\U0001f600", "x" * 200, "x" * 201, "'" * 300, "\xe9" * 600, Quoted("x")):

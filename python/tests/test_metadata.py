@@ -2,9 +2,11 @@
 
 import copy
 import email.errors
+import email.parser
 import importlib
 import pickle
 import unittest
+from unittest import mock
 
 from peer import needs, peer, seeded
 import support  # noqa: F401 - puts the module on the path
@@ -202,6 +204,22 @@ class Reading(unittest.TestCase):
         for data, _, _ in PARSED:
             if isinstance(data, bytes):
                 self.assertEqual(parse_email(data.decode("ascii", "surrogateescape")), parse_email(data))
+
+    def test_read(self):
+        """Headers and body are what `email` reads."""
+        draw, plain_ones = seeded("metadata headers"), 0
+        pieces = ["A", "Name", "b-c", ":", ": ", ": x", ":\ty ", "\n", "\n", "\n ", "\n\t", "\n\n", "\r\n", "\r", "\x0c", "\x85", "\xe9", "\x7f", "From ", " "]
+        for count in range(6000):
+            draw_of = pieces if count % 2 else pieces[:12]
+            text = "".join(draw.choice(draw_of) for _ in range(draw.randrange(12)))
+            text = draw.choice(["", "A: b\n", "A: b\nC: d"]) + text
+            message = email.parser.HeaderParser().parsestr(text)
+            with mock.patch.object(ours, "_PARSER") as parser:
+                parser.parsestr.return_value = message
+                headers, body = ours._read(text)
+                plain_ones += not parser.parsestr.called
+            self.assertEqual((list(headers), body), (list(message.raw_items()), message.get_payload()), text)
+        self.assertTrue(1000 < plain_ones < 5000, plain_ones)
 
     def test_whole(self):
         metadata = Metadata.from_email(WHOLE)

@@ -1,5 +1,6 @@
 -- What a call leaves in a buffer, and what it answers of a slot.
-use Rattle.std.proofs.Common.{◌≡◌, ℕ, ℤ, pos, List, length, refl, sym, subst, if◌then◌else◌}
+use Rattle.std.proofs.Common.{◌≡◌, ◌≤◌, ◌++◌, ℕ, ℤ, pos, false, List, drop, length, refl, sym, subst, if◌then◌else◌, arith}
+use Rattle.std.proofs.lemmas.Bool.Decides.{nat_tests}
 use Rattle.std.specs.Prelude.{Option, None, Result, Ok, Err}
 use Rattle.pylock_c.specs.Answer.{Tells, Writes, WritesWith, is_short, written as buffer_after}
 use Rattle.pylock_c.specs.Refusal.{number}
@@ -16,6 +17,20 @@ pub writes_err : {X : Type 0} {definition : Result (List X) Refusal} {old : List
     → ((refusal ≡ Memory → ⊥) → definition ≡ Err refusal) → code ≡ number refusal
     → Writes definition old old needed needed code
 writes_err {refusal = refusal} gives code = (Err refusal, gives, code, refl, refl)
+
+-- where the call wrote the items itself
+pub writes_itself : {definition : Result (List ℕ) Refusal} {items old new : List ℕ} {needed count : ℕ}
+    → definition ≡ Ok items → count ≡ length items → count ≤ length old → new ≡ items ++ drop count old
+    → Writes definition old new needed count (pos 0)
+writes_itself {items = items} {old = old} gives counted fits put =
+    let roomy : is_short old items ≡ false = grind (arith, nat_tests) in
+    (Ok items, gives, rw roomy refl, rw (roomy, ← counted) put, counted)
+
+-- where the buffer was as before when another call wrote them
+pub writes_later : {definition : Result (List ℕ) Refusal} {old before new : List ℕ} {needed needed' : ℕ} {code : ℤ}
+    → before ≡ old → Writes definition before new needed needed' code → Writes definition old new needed needed' code
+writes_later {definition = definition} {new = new} {needed = needed} {needed' = needed'} {code = code} same writes =
+    subst (λ (o : List ℕ). Writes definition o new needed needed' code) same writes
 
 pub with_ok : {X V : Type 0} {definition : Result (List X × V) Refusal} {items old new : List X} {needed : ℕ} {value after : V} {code : ℤ}
     → definition ≡ Ok (items, after) → code ≡ (if is_short old items then pos 4 else pos 0)

@@ -1,6 +1,6 @@
 //! Versions, specifier sets and names (PEP 440, PEP 503).
 
-ghost use Rattle.std.specs.Prelude.{◌≡◌, None, Some};
+ghost use Rattle.std.specs.Prelude.{◌≡◌, ℕ, IfNone, IfSome, None, Some, pos};
 ghost use Rattle.pytext.specs.Agreement.{Gives};
 ghost use Rattle.pylock_c.specs.Answer.{Tells, Writes};
 ghost use Rattle.pylock_c.specs.Sets.{admits_in, admits_of, is_name_of, name_of, parsed, set_in};
@@ -8,13 +8,13 @@ ghost use Rattle.pylock_c.specs.Sets.{set_of, set_text_in, spans_of, version_of}
 ghost use Rattle.pylock_c.specs.Slot.{kept_object, object};
 ghost use Rattle.pylock_c.specs.declared.refusal.Refusal.TheVariants.{Memory};
 
-use crate::answer::{keep_object, tell_value, write, write_made};
+use crate::answer::{OK, keep_object, tell_value, write, write_made};
 use crate::object::Object;
 use crate::refusal::Refusal;
 use crate::slot::Slot;
 use crate::text::text;
 use pylock_values::set_spans;
-use pyver_core::{SpecifierSet, Version, is_name, normal_name};
+use pyver_core::{SpecifierSet, Version, is_name, normal_name, write_normal_name};
 use std::alloc::Global;
 
 pub(crate) fn version(alloc: Global, bytes: &[u8]) -> Result<Version, Refusal>
@@ -70,6 +70,17 @@ fn name(alloc: Global, bytes: &[u8]) -> Result<Vec<u8>, Refusal>
     Ok(normal_name(alloc, text(bytes)?)?.into_bytes())
 }
 
+/// Writes the normal form of a name at the front of the buffer, where that has room for the text,
+/// and answers how long it is. It takes no memory.
+#[tactic(auto, using(crate::proofs::AnswerLemmas::writes_itself))]
+fn write_name(bytes: &[u8], out: &mut [u8]) -> Option<usize>
+    ensures written { IfSome result (λ count. (needed : ℕ)
+        → Writes (name_of bytes.now) out.old out.new needed count (pos 0)) }
+    ensures kept { IfNone result (out.new ≡ out.old) }
+{
+    write_normal_name(text(bytes).ok()?, out)
+}
+
 fn is_name_text(bytes: &[u8]) -> Result<bool, Refusal>
     ensures { Gives Memory (λ is. is) result (is_name_of bytes.now) }
 {
@@ -85,11 +96,18 @@ pub extern "C" fn pylock_is_name(text: &[u8], is_name: &mut bool) -> i32
 }
 
 /// The normal form of the text as a name.
+#[tactic(auto, using(crate::proofs::AnswerLemmas::writes_later))]
 #[unsafe(no_mangle)]
 pub extern "C" fn pylock_name(alloc: Global, text: &[u8], out: &mut [u8], needed: &mut usize) -> i32
     ensures { Writes (name_of text.now) out.old out.new needed.old needed.new result }
 {
-    write_made(name(alloc, text), out, needed)
+    match write_name(text, out) {
+        Some(count) => {
+            *needed = count;
+            OK
+        }
+        None => write_made(name(alloc, text), out, needed),
+    }
 }
 
 fn parsed(alloc: Global, bytes: &[u8]) -> Result<Object, Refusal>

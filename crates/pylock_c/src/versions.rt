@@ -108,8 +108,7 @@ fn split_any(alloc: Global, text: &str) -> Result<(Vec<u64>, VersionNumbers), Re
 {
     let version = Version::parse(alloc, text)?;
     let release = words_of(alloc, version.release())?;
-    let numbers = VersionNumbers::of(alloc, &version)?;
-    Ok((release, numbers))
+    Ok((release, VersionNumbers::of(&version)))
 }
 
 /// The parts of a version as numbers.
@@ -154,7 +153,7 @@ fn tell_any(alloc: Global, version: &Version, text: &str) -> Result<Reading, All
         key: version.order_key(alloc)?,
         release: words_of(alloc, version.release())?,
         kind: kind_of(version, text),
-        parts: VersionNumbers::of(alloc, version)?,
+        parts: VersionNumbers::of(version),
     })
 }
 

@@ -1,14 +1,15 @@
 -- Rows and texts in order, seen by the bytes of texts that are lent.
-use Rattle.std.proofs.Common.{Ordering, Less, Equal, Greater, ◌≡◌, ◌∙◌, ℕ, ◌+◌, ◌<◌, Bool, true, false, cond, Bor, List, [], ◌∷◌, ◌++◌, length, map, drop, take, get_or, refl, sym, ap, append_assoc, append-nil}
-use Rattle.std.proofs.lemmas.Grind.{flat_map-append}
-use Rattle.std.proofs.lemmas.List.{drop_more, map-append, take_more}
+use Rattle.std.proofs.Common.{Ordering, Less, Equal, Greater, ◌≡◌, ◌∙◌, ℕ, ◌+◌, ◌<◌, ◌≤◌, Bool, true, false, cond, Bor, List, [], ◌∷◌, ◌++◌, length, map, drop, take, get_or, refl, sym, ap, append_assoc}
+use Rattle.std.proofs.lemmas.List.{drop_more, take_all}
+use Rattle.std.proofs.lemmas.List.Folds.{flat_map-map}
 use Rattle.std.specs.BTreeSet.{insert_key}
 use Rattle.std.specs.Cmp.Lexicographic.{slice_cmp}
 use Rattle.std.specs.List.{filter, flat_map}
 use Rattle.std.specs.Ordering.{nat_cmp, match_ordering}
 use Rattle.std.specs.Str.{bytes_eq}
-use Rattle.pylock_compare.specs.Lent.{lent_rows, lent_texts}
-use Rattle.pylock_compare.specs.Rows.{Row, in_order, names_of, put_among, under_each, values_at}
+use Rattle.pylock_compare.specs.Lent.{each_told, found, lent_rows, lent_texts, told_under}
+use Rattle.pylock_compare.specs.Rows.{in_order, names_of, put_among, under_each, values_at}
+use Rattle.pylock_compare.specs.declared.rows.Sides.{Sides}
 
 moved : {A B C : Type 0} (f : A → B) (g : A → C) (h : C → B) (is : Bool) (x : A) (xs : List A) (ys : List C)
     → f x ≡ h (g x) → map f xs ≡ map h ys → map f (cond is (x ∷ xs) xs) ≡ map h (cond is (g x ∷ ys) ys)
@@ -47,10 +48,6 @@ put_more old new texts i d all within put so_far =
 
 -- ---- what is told of each name
 
--- what is told of these names
-abbrev pub each_told : {V C : Type 0} → (List ℕ → List V → List V → List C) → (olds news : List (Row V)) → List (List ℕ) → List C
-each_told told olds news names = flat_map (λ name. told name (values_at name olds) (values_at name news)) names
-
 -- the values of rows that are lent, each seen as it stands in a row
 pub values_seen : {V W : Type 0} (view : V → W) (name : List ℕ) (rows : List (Bor (List ℕ) × V))
     → map view (values_at name (lent_rows rows)) ≡ values_at name (map (λ row. (row.0.now, view row.1)) rows)
@@ -67,41 +64,39 @@ pub names_seen : {V W : Type 0} (view : V → W) (rows : List (Bor (List ℕ) ×
 names_seen view [] = refl
 names_seen view (row ∷ rows) = ap (λ more. row.0.now ∷ more) (names_seen view rows)
 
--- with one name more
-pub told_more : {V C : Type 0} (told : List ℕ → List V → List V → List C) (olds news : List (Row V)) (names : List (Bor (List ℕ)))
-    (i : ℕ) (d : Bor (List ℕ)) (old new : List V) (start before after : List C)
-    → i < length names
-    → old ≡ values_at (get_or names i d).now olds → new ≡ values_at (get_or names i d).now news
-    → after ≡ before ++ told (get_or names i d).now old new
-    → before ≡ start ++ each_told told olds news (lent_texts (take i names))
-    → after ≡ start ++ each_told told olds news (lent_texts (take (i + 1) names))
-told_more {V} {C} told olds news names i d old new start before after within from to added so_far =
-    let front = lent_texts (take i names) in
-    let name = get_or names i d in
-    let grown : lent_texts (take (i + 1) names) ≡ front ++ name.now ∷ [] =
-    ap lent_texts (take_more names i d within)
-    ∙ map-append (λ (text : Bor (List ℕ)). text.now) (take i names) (name ∷ []) in
-    added
-    ∙ (λ j. so_far j ++ told name.now (from j) (to j))
-    ∙ append_assoc start (each_told told olds news front) (one name.now)
-    ∙ ap (λ more. start ++ more) (ap (λ more. each_told told olds news front ++ more) (sym (append-nil (one name.now))) ∙ sym (flat_map-append one front (name.now ∷ [])))
-    ∙ ap (λ names. start ++ each_told told olds news names) (sym grown)
-  where
-    one : List ℕ → List C
-    one n = told n (values_at n olds) (values_at n news)
+module _ {V W C : Type 0} (view : V → W) (told : List ℕ → List W → List W → List C) (sides : Sides V) (olds news : List (Bor (List ℕ) × V)) where
+  -- what is told of a name
+  one : List ℕ → List C
+  one name = told name (values_at name (map (λ row. (row.0.now, view row.1)) olds)) (values_at name (map (λ row. (row.0.now, view row.1)) news))
 
--- all names
-pub told_all : {V W C : Type 0} (view : V → W) (told : List ℕ → List W → List W → List C) (olds news : List (Bor (List ℕ) × V))
-    (names : List (Bor (List ℕ))) (i : ℕ) (start after : List C)
-    → after ≡ start ++ each_told told (map (λ row. (row.0.now, view row.1)) olds) (map (λ row. (row.0.now, view row.1)) news) (lent_texts (take i names))
-    → take i names ≡ names
-    → lent_texts names ≡ in_order (names_of (lent_rows olds) ++ names_of (lent_rows news))
-    → after ≡ start ++ under_each told (map (λ row. (row.0.now, view row.1)) olds) (map (λ row. (row.0.now, view row.1)) news)
-told_all {V} {W} view told olds news names i start after so_far all whole =
-    let seen = λ (rows : List (Bor (List ℕ) × V)). map {A = Bor (List ℕ) × V} {B = List ℕ × W} (λ row. (row.0.now, view row.1)) rows in
-    so_far
-    ∙ ap (λ names. start ++ each_told told (seen olds) (seen news) names)
-    (ap lent_texts all ∙ whole ∙ (λ j. in_order (names_seen view olds j ++ names_seen view news j)))
+  -- of names, what the rows under them tell
+  pub each_seen : ((name : List ℕ) → found sides.olds name ≡ values_at name (lent_rows olds)) → ((name : List ℕ) → found sides.news name ≡ values_at name (lent_rows news))
+      → (names : List (Bor (List ℕ))) → each_told view told sides names
+      ≡ flat_map (λ name. told name (values_at name (map (λ row. (row.0.now, view row.1)) olds)) (values_at name (map (λ row. (row.0.now, view row.1)) news))) (lent_texts names)
+  unfolding one
+  each_seen from to names =
+      (λ i. flat_map (λ name. told name.now ((ap (map view) (from name.now) ∙ values_seen view name.now olds) i) ((ap (map view) (to name.now) ∙ values_seen view name.now news) i)) names)
+      ∙ sym (flat_map-map one (λ (name : Bor (List ℕ)). name.now) names)
+
+  -- of all names of the sides, that under each
+  pub told_seen : lent_texts sides.names.items ≡ in_order (names_of (lent_rows olds) ++ names_of (lent_rows news))
+      → ((name : List ℕ) → found sides.olds name ≡ values_at name (lent_rows olds)) → ((name : List ℕ) → found sides.news name ≡ values_at name (lent_rows news))
+      → told_under view told sides ≡ under_each told (map (λ row. (row.0.now, view row.1)) olds) (map (λ row. (row.0.now, view row.1)) news)
+  unfolding one
+  told_seen names from to =
+      each_seen from to sides.names.items
+      ∙ ap (flat_map one) (names ∙ (λ i. in_order (names_seen view olds i ++ names_seen view news i)))
+
+  -- the same at the end of a loop over the names
+  pub told_all : (names : List (Bor (List ℕ))) (i : ℕ) (start after : List C)
+      → after ≡ start ++ each_told view told sides (take i names) → length names ≤ i → names ≡ sides.names.items
+      → lent_texts sides.names.items ≡ in_order (names_of (lent_rows olds) ++ names_of (lent_rows news))
+      → ((name : List ℕ) → found sides.olds name ≡ values_at name (lent_rows olds)) → ((name : List ℕ) → found sides.news name ≡ values_at name (lent_rows news))
+      → after ≡ start ++ under_each told (map (λ row. (row.0.now, view row.1)) olds) (map (λ row. (row.0.now, view row.1)) news)
+  told_all names i start after so_far end all whole from to =
+      so_far
+      ∙ ap (λ names. start ++ each_told view told sides names) (take_all i names end ∙ all)
+      ∙ ap (λ more. start ++ more) (told_seen whole from to)
 
 -- ---- what is told in turn
 

@@ -1,9 +1,7 @@
 //! Lists of texts, each of which may be absent: by these entries and sources are compared.
 
-ghost use Rattle.std.specs.Prelude.{◌≡◌, ◌++◌, ◌∷◌, [], IfOk, OnOk, OnErr, Some};
+ghost use Rattle.std.specs.Prelude.{◌≡◌, ◌++◌, ◌∷◌, [], OnOk};
 ghost use Rattle.std.specs.Option.{option_copied};
-ghost use Rattle.pylock_compare.specs.Lent.{lent_texts};
-ghost use Rattle.pylock_compare.specs.Texts.{all_there};
 
 use std::alloc::{AllocError, Global};
 use std::cmp::Ordering;
@@ -45,17 +43,6 @@ impl<'a> Key<'a> {
     {
         self.texts.push(text)?;
         Ok(())
-    }
-
-    /// The texts, which are all there.
-    pub fn of_texts(alloc: Global, texts: &[&'a str]) -> Result<Key<'a>, AllocError>
-        ensures { IfOk result (λ key. key ≡ all_there (lent_texts texts.now)) }
-    {
-        let mut key = Key::new(alloc);
-        for text in texts {
-            key.push(Some(text.as_bytes()))?;
-        }
-        Ok(key)
     }
 }
 

@@ -13,6 +13,7 @@ use Rattle.pylock_diff.specs.Head.{HeadKey, first, have_same_value, head_changes
 use Rattle.pylock_diff.specs.Item.{ItemValue, entry_items, pick_items}
 use Rattle.pylock_diff.specs.Partners.{item_key, without_partners}
 use Rattle.pylock_diff.specs.declared.change.ChangeKind.TheVariants.{Head}
+use Rattle.pylock_shown.specs.Hidden.{hidden}
 use Rattle.pylock_diff.proofs.Same.Lists.{bytes_itself, none_under, nothing}
 
 -- ---- names
@@ -21,15 +22,12 @@ use Rattle.pylock_diff.proofs.Same.Lists.{bytes_itself, none_under, nothing}
 pub no_rest : (items : List ItemValue) → without_partners items items ≡ []
 no_rest items = no_lone item_key items (map item_key items) (λ k. omega arith)
 
-pub untold_rest : (name : List ℕ) → rest_changes name [] [] ≡ []
-untold_rest name = refl
-
 pub shared_itself : (name : List ℕ) (items : List ItemValue) → shared_changes name items items ≡ []
 shared_itself name items = λ i. rest_changes name (no_rest items i) (no_rest items i)
 
 pub name_itself : (name : List ℕ) (items : List ItemValue) → name_changes name items items ≡ []
 name_itself name [] = refl
-name_itself name (item ∷ items) = shared_itself name (item ∷ items)
+name_itself name (item ∷ items) = shared_itself (hidden name) (item ∷ items)
 
 pub items_itself : (rows : List (Row ItemValue)) → item_changes rows rows ≡ []
 items_itself rows = none_under name_changes rows rows (λ name. name_itself name (values_at name rows))
@@ -42,7 +40,7 @@ same_value (Some one) = bytes_itself one.code
 
 value_itself : (key : List ℕ) (one : Option HeadKey) → key_change key one one ≡ []
 value_itself key one =
-    ap (λ same. told_where (not same) (change_of Head key (option_map (λ (k : HeadKey). k.text) one) (option_map (λ (k : HeadKey). k.text) one))) (same_value one)
+    ap (λ same. told_where (not same) (change_of Head (hidden key) (option_map (λ (k : HeadKey). k.text) one) (option_map (λ (k : HeadKey). k.text) one))) (same_value one)
 
 key_itself : (rows : List (Row HeadKey)) (key : List ℕ) → key_change key (first (values_at key rows)) (first (values_at key rows)) ≡ []
 key_itself rows key = value_itself key (first (values_at key rows))
@@ -61,5 +59,3 @@ lock_itself lock = λ i. head_itself lock.head i ++ items_itself (entry_items lo
 
 pub plan_itself : (state : State) (picks : List Pick) → answer_changes state state (Plan picks) (Plan picks) ≡ []
 plan_itself state picks = items_itself (pick_items state picks)
-
-pub ruleset from_itself = (lock_itself, plan_itself)

@@ -6,11 +6,12 @@ use Rattle.std.specs.List.{filter}
 use Rattle.std.specs.Map.{lookup}
 use Rattle.std.specs.Ordering.{nat_cmp}
 use Rattle.toml.proofs.Views.{table_get}
-use Rattle.toml.specs.Data.{Members, get_member}
+use Rattle.toml.specs.Data.{get_member}
 use Rattle.toml.specs.View.{members_view, view}
 use Rattle.toml.specs.declared.value.Value.{Value}
 use Rattle.pylock_diff.specs.Codes.{Rows}
 use Rattle.pylock_diff.specs.SourceKeys.{other_rows, wheels_rows}
+use Rattle.pylock_diff.specs.declared.inner.SourceTable.{SourceTable}
 
 -- the rows of which no line tells
 left : (List ℕ → Bool) → Rows → Rows
@@ -42,9 +43,9 @@ module _ (found : Option (Bor Value)) (key : List ℕ) (entries : List (String G
   stands = sym (some_mapped (λ (x : Bor Value). view x.now) found) ∙ ap is_some (table_get found key entries is)
 
   -- what is added of a key of a table
-  pub source_at : (told : Members → List ℕ → Bool) (old new : Rows) → new ≡ old ++ other_rows told (option_map (λ v. view v.now) found)
-      → new ≡ old ++ other_rows told (get_member key (members_view entries))
-  source_at told old new put = put ∙ ap (λ field. old ++ other_rows told field) (table_get found key entries is)
+  pub source_at : (kind : SourceTable) (old new : Rows) → new ≡ old ++ other_rows kind (option_map (λ v. view v.now) found)
+      → new ≡ old ++ other_rows kind (get_member key (members_view entries))
+  source_at kind old new put = put ∙ ap (λ field. old ++ other_rows kind field) (table_get found key entries is)
 
   pub wheels_at : (old new : Rows) → new ≡ old ++ wheels_rows (option_map (λ v. view v.now) found) → new ≡ old ++ wheels_rows (get_member key (members_view entries))
   wheels_at old new put = put ∙ ap (λ field. old ++ wheels_rows field) (table_get found key entries is)

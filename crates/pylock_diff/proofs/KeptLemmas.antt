@@ -25,8 +25,9 @@ use Rattle.pylock_readers.specs.declared.error.EntryError.{EntryError}
 use Rattle.pylock_readers.specs.declared.error.LockError.{LockError}
 use Rattle.pylock_readers.specs.declared.error.LockError.TheVariants.{TooMany}
 use Rattle.pytoml_code.specs.Proper.{AreProper, HasProper, IfThere, IsProper}
-use Rattle.pylock_diff.specs.Compared.{EntryCodesValue, compared_in, entry_codes, head_of, is_head_key, item_codes, items_at}
+use Rattle.pylock_diff.specs.Compared.{compared_in, entry_codes, head_of, is_head_key, item_codes, items_at}
 use Rattle.pylock_diff.specs.Head.{head_key}
+use Rattle.pylock_diff.specs.declared.compared.EntryCodes.{EntryCodes}
 use Rattle.pylock_diff.specs.Inner.Kept.{AreProperTables, AreTables, HasCodes, HasProperHead, HasProperTables, IsTable, entries_after, kept_of}
 
 -- ---- the tables as they come
@@ -47,7 +48,7 @@ fewer : (taken : Items) (d : Data) → item_count (push_item taken d) ≤ most_e
 fewer taken d few = omega (arith, few, count_push taken d)
 
 -- the codes of one more
-pub kept_next : (before after : List EntryCodesValue) (code : EntryCodesValue) (taken : Items) (members : Members)
+pub kept_next : (before after : List EntryCodes) (code : EntryCodes) (taken : Items) (members : Members)
     → after ≡ before ++ code ∷ [] → code ≡ entry_codes (table members) → HasProper members → HasCodes before taken
     → HasCodes after (push_item taken (table members))
 kept_next before after code taken members grown is proper has = record {
@@ -60,7 +61,7 @@ kept_next before after code taken members grown is proper has = record {
 }
 
 -- one too many
-pub kept_enough : (codes : List EntryCodesValue) (taken : Items) (d : Data) → most_entries ≤ length codes → HasCodes codes taken
+pub kept_enough : (codes : List EntryCodes) (taken : Items) (d : Data) → most_entries ≤ length codes → HasCodes codes taken
     → HasCodes codes (push_item taken d)
 kept_enough codes taken d enough has = record {
   codes = λ few. absurd (never few);
@@ -241,7 +242,7 @@ head_same document (item d ds) = head_with (codes "packages") (array (item d ds)
 kept_few : (ds : Items) → item_count ds ≤ most_entries → kept_of ds ≡ item_codes ds
 kept_few ds few = rw (le-ltb most_entries (item_count ds) few)
 
-entries_same : (document : Members) (taken : Items) (entries : List EntryCodesValue) → HasCodes entries taken
+entries_same : (document : Members) (taken : Items) (entries : List EntryCodes) → HasCodes entries taken
     → IsListed (get_member (codes "packages") (with_elements (codes "packages") taken document))
     → entries_after entries document ≡ item_codes (items_at (get_member (codes "packages") (with_elements (codes "packages") taken document)))
 entries_same document no_items [] has is = kept_few _ is.few
@@ -252,7 +253,7 @@ entries_same document (item d ds) entries has is =
     rw (has.codes few, there)
 
 -- the lock of a document and of the elements that were taken from it, with what was kept of both
-pub compared_is : (document : Members) (taken : Items) (entries : List EntryCodesValue) (lock : LockValue) → HasCodes entries taken
+pub compared_is : (document : Members) (taken : Items) (entries : List EntryCodes) (lock : LockValue) → HasCodes entries taken
     → lock_in (with_elements (codes "packages") taken document) ≡ Ok lock
     → compared_in (with_elements (codes "packages") taken document) ≡ Ok (record { lock = lock; head = head_of document; entries = entries_after entries document })
 compared_is document taken entries lock has is =
@@ -279,7 +280,7 @@ whole_ascends : (document : Members) (taken : Items) → Ascend document → Asc
 whole_ascends document no_items ascend = ascend
 whole_ascends document (item d ds) ascend = ascend_with (codes "packages") (array (item d ds)) document ascend
 
-packages_proper : (document : Members) (taken : Items) (entries : List EntryCodesValue) → HasCodes entries taken → HasProperTables entries document
+packages_proper : (document : Members) (taken : Items) (entries : List EntryCodes) → HasCodes entries taken → HasProperTables entries document
     → IsListed (get_member (codes "packages") (with_elements (codes "packages") taken document))
     → AreProper (items_at (get_member (codes "packages") (with_elements (codes "packages") taken document)))
 packages_proper document no_items [] has tables is = tables is.few is.tables
@@ -290,7 +291,7 @@ packages_proper document (item d ds) entries has tables is =
     rw there (has.proper few)
 
 -- all of the document stands in memory
-pub whole_is_proper : (document : Members) (taken : Items) (entries : List EntryCodesValue) (lock : LockValue) → HasCodes entries taken
+pub whole_is_proper : (document : Members) (taken : Items) (entries : List EntryCodes) (lock : LockValue) → HasCodes entries taken
     → HasProperHead document → HasProperTables entries document
     → lock_in (with_elements (codes "packages") taken document) ≡ Ok lock
     → HasProper (with_elements (codes "packages") taken document)
@@ -332,7 +333,7 @@ pub none_proper : (vs : List Value) → most_entries < length vs → AreProperTa
 none_proper vs many few tables = absurd (omega (arith, many, few, count_of_items vs))
 
 -- all of not too many
-pub kept_all : (vs : List Value) (i : ℕ) (entries : List EntryCodesValue) → length vs ≤ i → length vs ≤ most_entries
+pub kept_all : (vs : List Value) (i : ℕ) (entries : List EntryCodes) → length vs ≤ i → length vs ≤ most_entries
     → entries ++ item_codes (items_view (drop i vs)) ≡ item_codes (items_view vs) → entries ≡ kept_of (items_view vs)
 kept_all vs i entries past few so_far =
     let fewer : item_count (items_view vs) ≤ most_entries = omega (arith, few, count_of_items vs) in

@@ -8,9 +8,9 @@ pub mod MachineLemmas
 pub mod MemberLemmas
 pub mod OtherLemmas
 pub mod PartnerLemmas
-pub mod PickItemLemmas
 pub mod PickLemmas
 pub mod PlanLemmas
 pub mod Same
 pub mod StandLemmas
+pub mod TextLemmas
 pub mod TurnedLemmas

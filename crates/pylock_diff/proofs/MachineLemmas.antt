@@ -14,11 +14,11 @@ use Rattle.pylock_core.specs.declared.answer.Answer.TheVariants.{Plan, Fault}
 use Rattle.pylock_core.specs.declared.answer.Pick.{Pick}
 use Rattle.pylock_core.specs.declared.answer.PickSource.{PickSource}
 use Rattle.pylock_diff.specs.Changes.{answer_changes}
-use Rattle.pylock_diff.specs.Inner.Picked.{picked_entries}
+use Rattle.pylock_diff.specs.Item.{picked_entries}
 use Rattle.pylock_diff.specs.SamePicks.{HaveSamePicks, PickSame, PickedValue, all_picked}
-use Rattle.pylock_diff.specs.SamePlan.{numberless}
+use Rattle.pylock_diff.specs.SamePlan.{numberless, pick_value}
 use Rattle.pylock_diff.proofs.CountLemmas.{count_joined, counts_permute, total, total_permuted}
-use Rattle.pylock_diff.proofs.PlanLemmas.{Picked, answers_same, value_exact, value_of, values_seen, whole_key}
+use Rattle.pylock_diff.proofs.PlanLemmas.{Picked, answers_same, value_exact, whole_key}
 
 -- what is compared of what a pick names
 abbrev compared_in : Option PickedValue → List Picked
@@ -45,11 +45,11 @@ numberless_moved : (one other : State) (picks others : List Pick) → IsPermutat
 numberless_moved one other picks others moved =
     let ps = flat_map compared_in (all_picked one picks) in
     let qs = flat_map compared_in (all_picked other others) in
-    let values : IsPermutation (map value_of ps) (map value_of qs) = counts_permute whole_key value_of value_exact ps qs (λ k.
+    let values : IsPermutation (map pick_value ps) (map pick_value qs) = counts_permute whole_key pick_value value_exact ps qs (λ k.
     counted_in k (all_picked one picks) ∙ total_permuted (λ x. count k (map whole_key (compared_in x))) (all_picked one picks) (all_picked other others) moved
     ∙ sym (counted_in k (all_picked other others))) in
-    subst (λ l. IsPermutation l (numberless other others)) (sym (values_seen one picks ∙ ap (map value_of) (entries_seen one picks)))
-    (subst (IsPermutation (map value_of ps)) (sym (values_seen other others ∙ ap (map value_of) (entries_seen other others))) values)
+    subst (λ l. IsPermutation l (numberless other others)) (ap (map pick_value) (sym (entries_seen one picks)))
+    (subst (IsPermutation (map pick_value ps)) (ap (map pick_value) (sym (entries_seen other others))) values)
 
 untold_by : (one other : State) (before after : Answer) (plan : List Pick) → HaveSamePicks one before other after → before ≡ Plan plan → answer_changes one other before after ≡ []
 untold_by one other (Plan picks) (Plan others) plan same is = answers_same one other (Plan picks) (Plan others) (numberless_moved one other picks others same)

@@ -10,6 +10,7 @@ use Rattle.pylock_diff.specs.Inner.Lent.{lent_item, lent_items}
 use Rattle.pylock_diff.specs.Item.{ItemValue}
 use Rattle.pylock_diff.specs.Partners.{item_key, row_texts, without_partners}
 use Rattle.pylock_diff.specs.declared.item.Item.{Item}
+use Rattle.pylock_shown.specs.Hidden.{hidden}
 
 -- the keys of items that are lent
 abbrev pub keys_of : List Item → List Texts
@@ -57,4 +58,4 @@ same_untold name [] [] same = refl
 same_untold name [] (new ∷ news) same = cc
 same_untold name (old ∷ olds) [] same = cc
 same_untold name (old ∷ olds) (new ∷ news) same =
-    λ i. rest_changes name (each_has_one (old ∷ olds) (new ∷ news) same i) (each_has_one (new ∷ news) (old ∷ olds) (sym same) i)
+    λ i. rest_changes (hidden name) (each_has_one (old ∷ olds) (new ∷ news) same i) (each_has_one (new ∷ news) (old ∷ olds) (sym same) i)

@@ -1,13 +1,12 @@
 -- Nothing is told of two answers exactly where both are plans that pick the same.
 use Rattle.std.proofs.Common.{◌≡◌, ◌∙◌, ◌++◌, ℕ, ◌+◌, ◌<◌, Bool, true, false, cond, codes, List, [], ◌∷◌, inl, inr, length, map, None, Option, Some, IsPermutation, refl, sym, ap, subst, arith, append-nil}
 use Rattle.std.proofs.lemmas.Bool.{cases_Bool, false≢true}
-use Rattle.std.proofs.lemmas.List.{map-append}
 use Rattle.std.proofs.lemmas.List.Sorted.{IsPermutation-map}
 use Rattle.std.proofs.lemmas.Slice.Eq.{bytes_eq-Decides}
 use Rattle.std.specs.Cmp.{tied_itself}
 use Rattle.std.specs.Cmp.Lexicographic.{nat_list_cmp_total, slice_cmp}
-use Rattle.std.specs.List.{filter, flat_map}
-use Rattle.std.specs.Option.{option_cmp, option_map_or}
+use Rattle.std.specs.List.{filter}
+use Rattle.std.specs.Option.{option_cmp}
 use Rattle.std.specs.Ordering.{is_eq, nat_cmp, ordering_then}
 use Rattle.std.specs.Str.{bytes_eq}
 use Rattle.toml.specs.Data.{string, table}
@@ -19,21 +18,20 @@ use Rattle.pylock_compare.specs.Partners.{are_alone, where_true}
 use Rattle.pylock_compare.specs.Rows.{Row, values_at}
 use Rattle.pylock_compare.specs.Texts.{Texts, are_alike}
 use Rattle.pylock_readers.specs.Entry.{EntryValue}
-use Rattle.pylock_core.specs.Session.Picks.{SourceValue, OfVcs, OfDirectory, OfArchive, OfWheel, OfSdist, source_in, source_word}
-use Rattle.pylock_core.specs.Session.State.{State, entry_at}
+use Rattle.pylock_core.specs.Session.Picks.{SourceValue, OfVcs, OfDirectory, OfArchive, OfWheel, OfSdist, source_word}
+use Rattle.pylock_core.specs.Session.State.{State}
 use Rattle.pylock_core.specs.declared.answer.Answer.{Answer}
 use Rattle.pylock_core.specs.declared.answer.Answer.TheVariants.{Plan, Fault}
 use Rattle.pylock_core.specs.declared.answer.FaultCode.{FaultCode}
 use Rattle.pylock_core.specs.declared.answer.Pick.{Pick}
-use Rattle.pylock_core.specs.declared.answer.PickSource.{PickSource}
 use Rattle.pylock_diff.specs.Changes.{answer_changes, item_changes, name_changes, rest_changes, row_changes}
 use Rattle.pylock_diff.specs.Codes.{Rows}
-use Rattle.pylock_diff.specs.Inner.Picked.{picked_entries, picked_entry, picked_row}
-use Rattle.pylock_diff.specs.Item.{ItemValue, pick_item, pick_items}
+use Rattle.pylock_diff.specs.Item.{ItemValue, pick_items, picked_entries, picked_row}
 use Rattle.pylock_diff.specs.Keys.{are_same_values, entry_key_changes, key_changes, placed_rows}
 use Rattle.pylock_diff.specs.Partners.{item_key, row_texts, without_partners}
 use Rattle.pylock_diff.specs.Picks.{pick_fields, source_members, source_row, version_row}
-use Rattle.pylock_diff.specs.SamePlan.{PickTheSame, PickValue, numberless, pick_value, pick_values}
+use Rattle.pylock_diff.specs.SamePlan.{PickTheSame, PickValue, numberless, pick_value}
+use Rattle.pylock_shown.specs.Hidden.{hidden}
 use Rattle.pylock_diff.proofs.CountLemmas.{counts_permute, permuted_count}
 use Rattle.pylock_diff.proofs.Same.Lists.{at_append, back_none, front_none, none_under, under_none, untold}
 use Rattle.pylock_diff.proofs.Same.Names.{name_same}
@@ -48,9 +46,6 @@ item_of pick = (picked_row pick).1
 
 abbrev key_of : Picked → Texts
 key_of pick = item_key (item_of pick)
-
-abbrev pub value_of : Picked → PickValue
-value_of pick = pick_value pick.0 pick.1
 
 -- a row by its name and its key
 abbrev row_key : Row ItemValue → Texts
@@ -71,7 +66,7 @@ rows_exact (x ∷ xs) (y ∷ ys) same =
     let more : row_texts xs ≡ row_texts ys = cc in
     λ i. (key i, value i) ∷ rows_exact xs ys more i
 
-pub value_exact : (p q : Picked) → whole_key p ≡ whole_key q → value_of p ≡ value_of q
+pub value_exact : (p q : Picked) → whole_key p ≡ whole_key q → pick_value p ≡ pick_value q
 value_exact p q same =
     let name : p.0.name ≡ q.0.name = cc in
     let texts : item_key (item_of p) ≡ item_key (item_of q) = cc in
@@ -82,10 +77,10 @@ value_exact p q same =
 abbrev key_by : PickValue → Texts
 key_by pick = Some pick.name ∷ row_texts (version_row pick.version ++ fields_row pick.source)
 
-key_seen : (p : Picked) → whole_key p ≡ key_by (value_of p)
+key_seen : (p : Picked) → whole_key p ≡ key_by (pick_value p)
 key_seen p = ap (λ rows. Some p.0.name ∷ row_texts (version_row p.0.version ++ rows)) (row_seen p.1)
 
-keys_seen : (ps : List Picked) → map whole_key ps ≡ map key_by (map value_of ps)
+keys_seen : (ps : List Picked) → map whole_key ps ≡ map key_by (map pick_value ps)
 keys_seen [] = refl
 keys_seen (p ∷ ps) = λ i. key_seen p i ∷ keys_seen ps i
 
@@ -235,30 +230,30 @@ same_fields p q same =
 
 -- the same values at each key, in the same entries
 all_same : (name : List ℕ) (os ns : List ItemValue) → rest_changes name os ns ≡ [] → (key : List ℕ)
-    → values_at key (placed_rows (λ item. item.keys) 0 os) ≡ values_at key (placed_rows (λ item. item.keys) 0 ns)
+    → values_at key (placed_rows false 0 os) ≡ values_at key (placed_rows false 0 ns)
 all_same name os ns none key =
     let nothing = front_none (row_changes name os ns) (entry_key_changes name (row_changes name os ns) os ns) none in
     let rest = back_none (row_changes name os ns) (entry_key_changes name (row_changes name os ns) os ns) none in
     let unsaid : entry_key_changes name [] os ns ≡ [] = ap (λ told. entry_key_changes name told os ns) (sym nothing) ∙ rest in
-    let here = under_none (key_changes name []) (λ key. refl) (placed_rows (λ item. item.keys) 0 os) (placed_rows (λ item. item.keys) 0 ns) unsaid key in
-    same_values _ _ (untold (are_same_values (values_at key (placed_rows (λ item. item.keys) 0 os)) (values_at key (placed_rows (λ item. item.keys) 0 ns))) _ here)
+    let here = under_none (key_changes name []) (λ key. refl) (placed_rows false 0 os) (placed_rows false 0 ns) unsaid key in
+    same_values _ _ (untold (are_same_values (values_at key (placed_rows false 0 os)) (values_at key (placed_rows false 0 ns))) _ here)
 
 -- an entry has something at its kind
-something : (q : Picked) (qs : List Picked) → ((key : List ℕ) → [] ≡ values_at key (placed_rows (λ item. item.keys) 0 (map item_of (q ∷ qs)))) → ⊥
+something : (q : Picked) (qs : List Picked) → ((key : List ℕ) → [] ≡ values_at key (placed_rows false 0 (map item_of (q ∷ qs)))) → ⊥
 something q qs same =
-    let none : values_at (source_word q.1) (pick_fields q.0 q.1) ≡ [] = first_none (λ item. item.keys) (item_of q) (map item_of qs) (source_word q.1) (sym (same (source_word q.1))) in
+    let none : values_at (source_word q.1) (pick_fields q.0 q.1) ≡ [] = first_none false (item_of q) (map item_of qs) (source_word q.1) (sym (same (source_word q.1))) in
     let some : source_code q.1 ∷ [] ≡ [] = sym (at_own q) ∙ none in
     absurd cc
 
 -- the first that are left have the same key
 no_lone_picks : (ps qs ls rs : List Picked) → alone ps qs ≡ ls → alone qs ps ≡ rs
-    → ((key : List ℕ) → values_at key (placed_rows (λ item. item.keys) 0 (map item_of ls)) ≡ values_at key (placed_rows (λ item. item.keys) 0 (map item_of rs)))
+    → ((key : List ℕ) → values_at key (placed_rows false 0 (map item_of ls)) ≡ values_at key (placed_rows false 0 (map item_of rs)))
     → (ls ≡ []) × (rs ≡ [])
 no_lone_picks ps qs [] [] left right same = (refl, refl)
 no_lone_picks ps qs [] (b ∷ rs) left right same = absurd (something b rs same)
 no_lone_picks ps qs (a ∷ ls) [] left right same = absurd (something a ls (λ key. sym (same key)))
 no_lone_picks ps qs (a ∷ ls) (b ∷ rs) left right same =
-    let fields = same_fields a b (λ key. first_same (λ item. item.keys) (item_of a) (item_of b) (map item_of ls) (map item_of rs) key (same key)) in
+    let fields = same_fields a b (λ key. first_same false (item_of a) (item_of b) (map item_of ls) (map item_of rs) key (same key)) in
     let key : key_of a ≡ key_of b = ap row_texts fields in
     let one = first_alone key_of ps (map key_of qs) a ls left in
     let two = first_alone key_of qs (map key_of ps) b rs right in
@@ -272,9 +267,9 @@ named_counts name (p ∷ ps) [] none k = absurd cc
 named_counts name (p ∷ ps) (q ∷ qs) none k =
     let olds = p ∷ ps in
     let news = q ∷ qs in
-    let rest : rest_changes name (map item_of (alone olds news)) (map item_of (alone news olds)) ≡ [] =
-    sym (λ i. rest_changes name (alone_seen olds news i) (alone_seen news olds i)) ∙ none in
-    let nones = no_lone_picks olds news (alone olds news) (alone news olds) refl refl (all_same name (map item_of (alone olds news)) (map item_of (alone news olds)) rest) in
+    let rest : rest_changes (hidden name) (map item_of (alone olds news)) (map item_of (alone news olds)) ≡ [] =
+    sym (λ i. rest_changes (hidden name) (alone_seen olds news i) (alone_seen news olds i)) ∙ none in
+    let nones = no_lone_picks olds news (alone olds news) (alone news olds) refl refl (all_same (hidden name) (map item_of (alone olds news)) (map item_of (alone news olds)) rest) in
     let few = none_alone key_of olds (map key_of news) nones.0 k in
     let more = none_alone key_of news (map key_of olds) nones.1 k in
     omega arith
@@ -294,33 +289,10 @@ picks_counts ps qs none k =
 
 -- ---- where the picks are the same
 
-pub items_none : (olds news : List (Row ItemValue)) → ((k : Texts) → count k (map row_key olds) ≡ count k (map row_key news)) → item_changes olds news ≡ []
+items_none : (olds news : List (Row ItemValue)) → ((k : Texts) → count k (map row_key olds) ≡ count k (map row_key news)) → item_changes olds news ≡ []
 items_none olds news same =
     none_under name_changes olds news
     (λ name. name_same name (values_at name olds) (values_at name news) (λ k. sym (count_at name k olds) ∙ same (Some name ∷ k) ∙ count_at name k news))
-
--- ---- picks and their entries
-
-each_seen : {X Y : Type 0} (g : Y → X) (f : Pick → List X) (h : Pick → List Y) → ((p : Pick) → f p ≡ map g (h p)) → (picks : List Pick) → flat_map f picks ≡ map g (flat_map h picks)
-each_seen g f h same [] = refl
-each_seen g f h same (p ∷ picks) = (λ i. same p i ++ each_seen g f h same picks i) ∙ sym (map-append g (h p) (flat_map h picks))
-
-source_seen : {X : Type 0} (g : Picked → X) (entry : EntryValue) (source : Option SourceValue)
-    → option_map_or (λ s. g (entry, s) ∷ []) source [] ≡ map g (option_map_or (λ s. (entry, s) ∷ []) source [])
-source_seen g entry None = refl
-source_seen g entry (Some source) = refl
-
-entry_seen : {X : Type 0} (g : Picked → X) (name : PickSource) (entry : Option EntryValue)
-    → option_map_or (λ e. option_map_or (λ s. g (e, s) ∷ []) (source_in e name) []) entry []
-    ≡ map g (option_map_or (λ e. option_map_or (λ s. (e, s) ∷ []) (source_in e name) []) entry [])
-entry_seen g name None = refl
-entry_seen g name (Some entry) = source_seen g entry (source_in entry name)
-
-items_seen : (state : State) (picks : List Pick) → pick_items state picks ≡ map picked_row (picked_entries state picks)
-items_seen state picks = each_seen picked_row (pick_item state) (picked_entry state) (λ p. entry_seen picked_row p.source (entry_at p.id state.entries)) picks
-
-pub values_seen : (state : State) (picks : List Pick) → numberless state picks ≡ map value_of (picked_entries state picks)
-values_seen state picks = each_seen value_of (pick_values state) (picked_entry state) (λ p. entry_seen value_of p.source (entry_at p.id state.entries)) picks
 
 -- ---- two plans
 
@@ -328,20 +300,15 @@ plans_told : (old new : State) (olds news : List Pick) → item_changes (pick_it
 plans_told old new olds news none =
     let ps = picked_entries old olds in
     let qs = picked_entries new news in
-    let counts = picks_counts ps qs (sym (λ i. item_changes (items_seen old olds i) (items_seen new news i)) ∙ none) in
-    subst (λ xs. IsPermutation xs (numberless new news)) (sym (values_seen old olds))
-    (subst (λ ys. IsPermutation (map value_of ps) ys) (sym (values_seen new news)) (counts_permute whole_key value_of value_exact ps qs counts))
+    counts_permute whole_key pick_value value_exact ps qs (picks_counts ps qs none)
 
 plans_same : (old new : State) (olds news : List Pick) → IsPermutation (numberless old olds) (numberless new news) → item_changes (pick_items old olds) (pick_items new news) ≡ []
 plans_same old new olds news same =
     let ps = picked_entries old olds in
     let qs = picked_entries new news in
-    let values : IsPermutation (map value_of ps) (map value_of qs) =
-    subst (λ xs. IsPermutation xs (map value_of qs)) (values_seen old olds) (subst (λ ys. IsPermutation (numberless old olds) ys) (values_seen new news) same) in
-    let keys = IsPermutation-map key_by (map value_of ps) (map value_of qs) values in
-    (λ i. item_changes (items_seen old olds i) (items_seen new news i))
-    ∙ items_none (map picked_row ps) (map picked_row qs) (λ k.
-    ap (count k) (keys_of_rows ps ∙ keys_seen ps) ∙ permuted_count k (map key_by (map value_of ps)) (map key_by (map value_of qs)) keys ∙ sym (ap (count k) (keys_of_rows qs ∙ keys_seen qs)))
+    let keys = IsPermutation-map key_by (map pick_value ps) (map pick_value qs) same in
+    items_none (map picked_row ps) (map picked_row qs) (λ k.
+    ap (count k) (keys_of_rows ps ∙ keys_seen ps) ∙ permuted_count k (map key_by (map pick_value ps)) (map key_by (map pick_value qs)) keys ∙ sym (ap (count k) (keys_of_rows qs ∙ keys_seen qs)))
 
 -- ---- two answers
 
@@ -354,8 +321,6 @@ pub answers_same : (old new : State) (before after : Answer) → PickTheSame old
 answers_same old new (Plan olds) (Plan news) same = plans_same old new olds news same
 answers_same old new (Plan olds) (Fault number code) same = absurd same
 answers_same old new (Fault number code) after same = absurd same
-
-pub ruleset same_picks = (answers_told, answers_same)
 
 pub old_fault : (old new : State) (number : ℕ) (code : FaultCode) (after : Answer) → length (answer_changes old new (Fault number code) after) ≡ 1
 old_fault old new number code after = omega arith

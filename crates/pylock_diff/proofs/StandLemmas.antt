@@ -1,5 +1,6 @@
 -- Each pick of an answer stands for an entry and its source.
 use Rattle.std.proofs.Common.{◌≡◌, ◌∙◌, ℕ, zero, suc, ◌+◌, ◌<◌, ◌≤◌, true, cond, List, [], ◌∷◌, All, length, get_or, is_some, map, None, Option, Some, option_map, slice_get, refl, sym, ap, arith, eq-eqb, ne_eqb, length-append}
+use Rattle.std.proofs.lemmas.List.{length-map}
 use Rattle.std.proofs.lemmas.List.Elements.{All-head, All-tail}
 use Rattle.std.specs.Option.{option_map_or}
 use Rattle.pylock_readers.specs.Entry.{EntryValue}
@@ -8,7 +9,8 @@ use Rattle.pylock_core.specs.Session.State.{NumbersRise, Rises, State, entry_at}
 use Rattle.pylock_core.specs.declared.answer.Pick.{Pick}
 use Rattle.pylock_core.specs.declared.answer.PickSource.{PickSource}
 use Rattle.pylock_core.specs.declared.answer.PickSource.TheVariants as source
-use Rattle.pylock_diff.specs.SamePlan.{numberless, pick_value, pick_values}
+use Rattle.pylock_diff.specs.Item.{picked_entries, picked_entry}
+use Rattle.pylock_diff.specs.SamePlan.{numberless, pick_value}
 
 -- an entry is found by its number
 found_at : (n : ℕ) (es : List (ℕ × EntryValue)) → Rises n (map (λ e. e.0) es) → (id : ℕ) (entry : EntryValue) (k : ℕ) → k < length es → get_or es k (id, entry) ≡ (id, entry)
@@ -40,21 +42,27 @@ source_stands source.Archive entry has = mapped _ entry.archive has
 source_stands (source.Wheel place) entry has = mapped _ (slice_get entry.wheels place) (some_at entry.wheels place has)
 source_stands source.Sdist entry has = mapped _ entry.sdist has
 
-one_source : (entry : EntryValue) (o : Option SourceValue) → is_some o ≡ true → length (option_map_or (λ s. pick_value entry s ∷ []) o []) ≡ 1
+abbrev with_source : EntryValue → Option SourceValue → List (EntryValue × SourceValue)
+with_source entry o = option_map_or (λ source. (entry, source) ∷ []) o []
+
+one_source : (entry : EntryValue) (o : Option SourceValue) → is_some o ≡ true → length (with_source entry o) ≡ 1
 one_source entry None some = absurd cc
 one_source entry (Some s) some = omega arith
 
-one_value : (state : State) (pick : Pick) → NumbersRise state → IsPickAmong state.entries pick → length (pick_values state pick) ≡ 1
-one_value state pick rises among =
+one_pick : (state : State) (pick : Pick) → NumbersRise state → IsPickAmong state.entries pick → length (picked_entry state pick) ≡ 1
+one_pick state pick rises among =
     let entry = among.0 in
     let found = found_at 1 state.entries rises pick.id entry among.1.0 among.1.1 among.1.2 in
-    ap (λ o. length (option_map_or (λ (e : EntryValue). option_map_or (λ s. pick_value e s ∷ []) (source_in e pick.source) []) o [])) found.1
+    ap (λ (o : Option EntryValue). length (option_map_or (λ (e : EntryValue). with_source e (source_in e pick.source)) o [])) found.1
     ∙ one_source entry (source_in entry pick.source) (source_stands pick.source entry among.2)
 
-pub all_values : (state : State) (plan : List Pick) → NumbersRise state → All (IsPickAmong state.entries) plan → length (numberless state plan) ≡ length plan
-all_values state [] rises all = refl
-all_values state (pick ∷ plan) rises all =
-    let one = one_value state pick rises (All-head (IsPickAmong state.entries) pick plan all) in
-    let more = all_values state plan rises (All-tail (IsPickAmong state.entries) pick plan all) in
-    let joined = length-append (pick_values state pick) (numberless state plan) in
+all_picks : (state : State) (plan : List Pick) → NumbersRise state → All (IsPickAmong state.entries) plan → length (picked_entries state plan) ≡ length plan
+all_picks state [] rises all = refl
+all_picks state (pick ∷ plan) rises all =
+    let one = one_pick state pick rises (All-head (IsPickAmong state.entries) pick plan all) in
+    let more = all_picks state plan rises (All-tail (IsPickAmong state.entries) pick plan all) in
+    let joined = length-append (picked_entry state pick) (picked_entries state plan) in
     omega arith
+
+pub all_values : (state : State) (plan : List Pick) → NumbersRise state → All (IsPickAmong state.entries) plan → length (numberless state plan) ≡ length plan
+all_values state plan rises all = length-map (picked_entries state plan) pick_value ∙ all_picks state plan rises all

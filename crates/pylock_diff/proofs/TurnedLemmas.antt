@@ -1,29 +1,28 @@
 -- What came from OLD to NEW went from NEW to OLD.
-use Rattle.std.proofs.Common.{◌≡◌, ◌∙◌, ◌++◌, ◌&&◌, ℕ, Bool, true, false, cond, not, List, [], ◌∷◌, map, Option, None, Some, option_map, refl, sym, ap}
+use Rattle.std.proofs.Common.{◌≡◌, ◌∙◌, ◌++◌, ◌&&◌, ℕ, Bool, true, false, codes, cond, not, List, [], ◌∷◌, map, Option, Some, option_map, refl, sym, ap}
 use Rattle.std.proofs.lemmas.List.{map-append}
 use Rattle.std.specs.List.{filter, flat_map}
-use Rattle.pylock_core.specs.Session.Picks.{SourceValue}
+use Rattle.pylock_core.specs.Session.Picks.{SourceValue, source_hashes}
 use Rattle.pylock_core.specs.Session.State.{State}
 use Rattle.pylock_core.specs.declared.answer.Answer.{Answer}
 use Rattle.pylock_core.specs.declared.answer.Answer.TheVariants.{Plan, Fault}
-use Rattle.pylock_places.specs.Shown.{source_text}
 use Rattle.pylock_compare.proofs.OrderLemmas.{in_order-swap}
 use Rattle.pylock_compare.specs.Rows.{Row, in_order, names_of, under_each, values_at}
 use Rattle.pylock_compare.specs.Texts.{are_alike}
-use Rattle.pylock_diff.specs.Change.{ChangeValue, change_of, comes_or_goes, coming_and_going, told_where, turned}
+use Rattle.pylock_diff.specs.Change.{ChangeValue, change_of, comes_or_goes, coming_and_going, if_both, shown_texts, told_where, turned}
 use Rattle.pylock_diff.specs.Changes.{answer_changes, item_changes, lock_changes, name_changes, row_changes, shared_changes}
-use Rattle.pylock_diff.specs.Codes.{Rows}
 use Rattle.pylock_diff.specs.Compared.{ComparedValue}
-use Rattle.pylock_diff.specs.Conditions.{condition_changes, conditions, conditions_text}
-use Rattle.pylock_diff.specs.Files.{archives_of, files_of, hash_changes, hashed, hashes_told, if_both, paths_of, place_change, place_changes, places_text, urls_of}
-use Rattle.pylock_diff.specs.Hashes.{Hashed, are_same_sets, hash_text, hashed_changes, value_changes}
+use Rattle.pylock_diff.specs.Conditions.{are_same, condition_changes, conditions}
+use Rattle.pylock_diff.specs.Files.{files_of, hash_changes, parts_of, place_changes, places_text, places_told}
+use Rattle.pylock_diff.specs.Hashes.{are_same_sets, hash_text, hashes_told, label_of, value_changes}
 use Rattle.pylock_diff.specs.Head.{HeadKey, first, have_same_value, head_changes, head_rows, is_list_key, key_change, keys_changes, list_keys}
 use Rattle.pylock_diff.specs.Item.{ItemValue, entry_items, pick_items}
 use Rattle.pylock_diff.specs.Keys.{changes_by, entry_key_changes, is_told, are_same_values, key_changes, placed_rows, source_key_changes}
 use Rattle.pylock_diff.specs.Partners.{without_partners}
-use Rattle.pylock_diff.specs.Sources.{file_changes, lone_sources}
+use Rattle.pylock_diff.specs.Sources.{file_change, file_changes, lone_sources}
 use Rattle.pylock_diff.specs.Versions.{version_changes, version_keys, versions_text}
-use Rattle.pylock_diff.specs.declared.change.ChangeKind.TheVariants.{Condition, File, Hash, Head, Place, Version}
+use Rattle.pylock_diff.specs.declared.change.ChangeKind.TheVariants.{Condition, Hash, Head, Place, Version}
+use Rattle.pylock_shown.specs.Hidden.{hidden}
 use Rattle.pylock_diff.proofs.Same.Lists.{nothing}
 
 taken : (b : Bool) (c : ChangeValue) (cs ds : List ChangeValue) → cond b (c ∷ cs ++ ds) (cs ++ ds) ≡ cond b (c ∷ cs) cs ++ ds
@@ -69,33 +68,31 @@ both_silent told silent [] news = refl
 both_silent told silent (old ∷ olds) [] = refl
 both_silent told silent (old ∷ olds) (new ∷ news) = silent (old ∷ olds) (new ∷ news)
 
-hashed_silent : (name : List ℕ) (old new : Hashed) → Silent (hashed_changes name old new)
-hashed_silent name old new =
-    under_silent (value_changes name old.label new.label) (λ algorithm olds news.
-    where_silent (not (are_same_sets olds news)) (change_of Hash name (Some (hash_text old.label algorithm (in_order olds))) (Some (hash_text new.label algorithm (in_order news)))) refl) old.hashes new.hashes
-
 told_silent : (name : List ℕ) (olds news : List (Row SourceValue)) → Silent (under_each (λ file. hashes_told name) olds news)
 told_silent name = under_silent (λ file. hashes_told name) (λ file.
-    both_silent (λ olds news. hashed_changes name (hashed olds) (hashed news)) (λ olds news. hashed_silent name (hashed olds) (hashed news)))
+    both_silent (λ olds news. under_each (value_changes name (label_of olds) (label_of news)) (flat_map source_hashes olds) (flat_map source_hashes news)) (λ olds news.
+    under_silent (value_changes name (label_of olds) (label_of news)) (λ algorithm os ns.
+    where_silent (not (are_same_sets os ns)) (change_of Hash name (Some (hash_text (label_of olds) algorithm (in_order os))) (Some (hash_text (label_of news) algorithm (in_order ns)))) refl)
+    (flat_map source_hashes olds) (flat_map source_hashes news)))
 
 hash_silent : (name : List ℕ) (olds news : List ItemValue) → Silent (hash_changes name olds news)
 hash_silent name olds news =
-    joined_silent (under_each (λ file. hashes_told name) (files_of olds) (files_of news))
-    (under_each (λ place. hashes_told name) (archives_of olds) (archives_of news))
-    (told_silent name (files_of olds) (files_of news)) (told_silent name (archives_of olds) (archives_of news))
+    joined_silent (under_each (λ file. hashes_told name) (files_of false olds) (files_of false news))
+    (under_each (λ place. hashes_told name) (files_of true olds) (files_of true news))
+    (told_silent name (files_of false olds) (files_of false news)) (told_silent name (files_of true olds) (files_of true news))
 
 file_silent : (name : List ℕ) (olds news : List ItemValue) → Silent (file_changes name olds news)
 file_silent name olds news =
-    joined_silent (map (λ source. change_of File name (Some (source_text source)) None) (lone_sources olds news))
-    (map (λ source. change_of File name None (Some (source_text source))) (lone_sources news olds))
-    (map_silent (λ source. change_of File name (Some (source_text source)) None) (λ source. refl) (lone_sources olds news))
-    (map_silent (λ source. change_of File name None (Some (source_text source))) (λ source. refl) (lone_sources news olds))
+    joined_silent (map (file_change name true) (lone_sources olds news)) (map (file_change name false) (lone_sources news olds))
+    (map_silent (file_change name true) (λ source. refl) (lone_sources olds news)) (map_silent (file_change name false) (λ source. refl) (lone_sources news olds))
 
 place_silent : (name : List ℕ) (olds news : List ItemValue) → Silent (place_changes name olds news)
 place_silent name olds news =
-    under_silent (λ file. if_both (place_change name)) (λ file. both_silent (place_change name) (λ olds news.
-    where_silent (not (are_same_sets (urls_of olds) (urls_of news) && are_same_sets (paths_of olds) (paths_of news)))
-    (change_of Place name (Some (places_text olds)) (Some (places_text news))) refl)) (files_of olds) (files_of news)
+    under_silent (λ file. places_told name) (λ file. both_silent (λ (os ns : List SourceValue).
+    told_where (not (are_same_sets (parts_of true os) (parts_of true ns) && are_same_sets (parts_of false os) (parts_of false ns)))
+    (change_of Place name (Some (places_text os)) (Some (places_text ns)))) (λ os ns.
+    where_silent (not (are_same_sets (parts_of true os) (parts_of true ns) && are_same_sets (parts_of false os) (parts_of false ns)))
+    (change_of Place name (Some (places_text os)) (Some (places_text ns))) refl)) (files_of false olds) (files_of false news)
 
 version_silent : (name : List ℕ) (olds news : List ItemValue) → Silent (version_changes name olds news)
 version_silent name olds news =
@@ -103,11 +100,13 @@ version_silent name olds news =
 
 condition_silent : (name : List ℕ) (olds news : List ItemValue) → Silent (condition_changes name olds news)
 condition_silent name olds news =
-    where_silent (not (are_alike (conditions olds) (conditions news))) (change_of Condition name (conditions_text olds) (conditions_text news)) refl
+    where_silent (not (are_same (conditions olds) (conditions news)))
+    (change_of Condition name (shown_texts (codes " | ") (conditions olds)) (shown_texts (codes " | ") (conditions news))) refl
 
-keys_silent : (rows : ItemValue → Rows) (name : List ℕ) (told : List ChangeValue) (olds news : List ItemValue) → Silent (changes_by rows name told olds news)
-keys_silent rows name told olds news =
-    under_silent (key_changes name told) (λ key os ns. where_silent (not (is_told told key) && not (are_same_values os ns)) _ refl) (placed_rows rows 0 olds) (placed_rows rows 0 news)
+keys_silent : (of_sources : Bool) (name : List ℕ) (told : List ChangeValue) (olds news : List ItemValue) → Silent (changes_by of_sources name told olds news)
+keys_silent of_sources name told olds news =
+    under_silent (key_changes name told) (λ key os ns. where_silent (not (is_told told key) && not (are_same_values os ns)) _ refl)
+    (placed_rows of_sources 0 olds) (placed_rows of_sources 0 news)
 
 row_silent : (name : List ℕ) (olds news : List ItemValue) → Silent (row_changes name olds news)
 row_silent name olds news =
@@ -125,18 +124,18 @@ row_silent name olds news =
     (file_silent name olds news))
     (place_silent name olds news))
     (condition_silent name olds news))
-    (keys_silent (λ item. item.inner) name [] olds news)
+    (keys_silent true name [] olds news)
 
 shared_silent : (name : List ℕ) (olds news : List ItemValue) → Silent (shared_changes name olds news)
 shared_silent name olds news =
     let os = without_partners olds news in
     let ns = without_partners news olds in
     joined_silent (row_changes name os ns) (entry_key_changes name (row_changes name os ns) os ns)
-    (row_silent name os ns) (keys_silent (λ item. item.keys) name (row_changes name os ns) os ns)
+    (row_silent name os ns) (keys_silent false name (row_changes name os ns) os ns)
 
 value_silent : (key : List ℕ) (old new : Option HeadKey) → Silent (key_change key old new)
 value_silent key old new =
-    where_silent (not (have_same_value old new)) (change_of Head key (option_map (λ (k : HeadKey). k.text) old) (option_map (λ (k : HeadKey). k.text) new)) refl
+    where_silent (not (have_same_value old new)) (change_of Head (hidden key) (option_map (λ (k : HeadKey). k.text) old) (option_map (λ (k : HeadKey). k.text) new)) refl
 
 keys_of_head_silent : (olds news : List (Row HeadKey)) (keys : List (List ℕ)) → Silent (keys_changes olds news keys)
 keys_of_head_silent olds news keys =
@@ -156,7 +155,8 @@ name_turned : (name : List ℕ) (olds news : List ItemValue) → coming_and_goin
 name_turned name [] [] = refl
 name_turned name [] (new ∷ news) = refl
 name_turned name (old ∷ olds) [] = refl
-name_turned name (old ∷ olds) (new ∷ news) = shared_silent name (new ∷ news) (old ∷ olds) ∙ ap (map turned) (sym (shared_silent name (old ∷ olds) (new ∷ news)))
+name_turned name (old ∷ olds) (new ∷ news) =
+    shared_silent (hidden name) (new ∷ news) (old ∷ olds) ∙ ap (map turned) (sym (shared_silent (hidden name) (old ∷ olds) (new ∷ news)))
 
 map_each : {X Y Z : Type 0} (g : Y → Z) (f : X → List Y) (xs : List X) → flat_map (λ x. map g (f x)) xs ≡ map g (flat_map f xs)
 map_each g f [] = refl
@@ -183,5 +183,3 @@ answer_turned old new (Plan olds) (Plan news) = items_turned (pick_items old old
 answer_turned old new (Plan olds) (Fault number code) = refl
 answer_turned old new (Fault number code) (Plan news) = refl
 answer_turned old new (Fault number code) (Fault other why) = refl
-
-pub ruleset all_turned = (lock_turned, answer_turned)

@@ -1,7 +1,9 @@
 -- A change of a lock: its kind, the name that it is of, and what was and is there, each as a person
 -- is shown it. A field may be absent.
 use Rattle.std.specs.Prelude.{ℕ, Bool, true, false, List, [], ◌∷◌, codes, filter, Option, Some}
-use Rattle.std.specs.Prelude.{if◌then◌else◌}
+use Rattle.std.specs.Prelude.{None, if◌then◌else◌, unwrap_or}
+use Rattle.std.specs.List.{join_by}
+use Rattle.pylock_compare.specs.Texts.{Texts}
 use Rattle.pylock_shown.specs.Hidden.{hidden}
 use Rattle.pylock_diff.specs.declared.change.ChangeKind.{ChangeKind}
 use Rattle.pylock_diff.specs.declared.change.ChangeKind.TheVariants as kind
@@ -24,14 +26,26 @@ change_word kind.Condition = codes "condition"
 change_word kind.Key = codes "key"
 change_word kind.Fault = codes "fault"
 
--- a change of what stands under a name
+-- a change of what stands under a name, as it is shown
 abbrev pub change_of : ChangeKind → List ℕ → (from to : Option (List ℕ)) → ChangeValue
-change_of kind name from to =
-    record { kind = kind; name = Some (hidden name); from = from; to = to }
+change_of kind name from to = record { kind = kind; name = Some name; from = from; to = to }
 
 -- a change where it stands
 abbrev pub told_where : Bool → ChangeValue → List ChangeValue
 told_where stands change = if stands then change ∷ [] else []
+
+-- what is told of what stands in both locks
+abbrev pub if_both : {V C : Type 0} → (List V → List V → List C) → (olds news : List V) → List C
+if_both told [] news = []
+if_both told (old ∷ olds) [] = []
+if_both told (old ∷ olds) (new ∷ news) = told (old ∷ olds) (new ∷ news)
+
+-- texts as they are shown, with a separator between them and `-` for one that is absent; nothing
+-- where there is none
+abbrev pub shown_texts : List ℕ → Texts → Option (List ℕ)
+shown_texts separator [] = None
+shown_texts separator (text ∷ texts) =
+    Some (join_by (λ t. hidden (unwrap_or t (codes "-"))) separator (text ∷ texts))
 
 -- ---- for laws
 

@@ -13,6 +13,7 @@ use Rattle.pylock_diff.specs.Item.{ItemValue, entry_items, pick_items}
 use Rattle.pylock_diff.specs.Keys.{entry_key_changes, source_key_changes}
 use Rattle.pylock_diff.specs.Partners.{without_partners}
 use Rattle.pylock_compare.specs.Rows.{Row, under_each}
+use Rattle.pylock_shown.specs.Hidden.{hidden}
 use Rattle.pylock_diff.specs.Sources.{file_changes}
 use Rattle.pylock_diff.specs.Versions.{version_changes, versions_text}
 use Rattle.pylock_diff.specs.declared.change.ChangeKind.TheVariants as kind
@@ -38,14 +39,15 @@ abbrev pub shared_changes : List ℕ → (olds news : List ItemValue) → List C
 shared_changes name olds news =
     rest_changes name (without_partners olds news) (without_partners news olds)
 
--- what is told of a name: of what OLD and NEW have of it
+-- what is told of a name, as it is shown: of what OLD and NEW have of it
 abbrev pub name_changes : List ℕ → (olds news : List ItemValue) → List ChangeValue
 name_changes name [] [] = []
 name_changes name [] (new ∷ news) =
-    change_of kind.Added name None (versions_text (new ∷ news)) ∷ []
+    change_of kind.Added (hidden name) None (versions_text (new ∷ news)) ∷ []
 name_changes name (old ∷ olds) [] =
-    change_of kind.Removed name (versions_text (old ∷ olds)) None ∷ []
-name_changes name (old ∷ olds) (new ∷ news) = shared_changes name (old ∷ olds) (new ∷ news)
+    change_of kind.Removed (hidden name) (versions_text (old ∷ olds)) None ∷ []
+name_changes name (old ∷ olds) (new ∷ news) =
+    shared_changes (hidden name) (old ∷ olds) (new ∷ news)
 
 -- names in order of code point
 abbrev pub item_changes : (olds news : List (Row ItemValue)) → List ChangeValue

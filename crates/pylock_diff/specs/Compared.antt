@@ -8,19 +8,15 @@ use Rattle.pytext.specs.Results.{◌>>=◌}
 use Rattle.pylock_readers.specs.Lock.{LockValue}
 use Rattle.pylock_readers.specs.Lock.Reading.{document_in, lock_in}
 use Rattle.pylock_readers.specs.declared.error.LockError.{LockError}
-use Rattle.pylock_diff.specs.Codes.{Rows, member_rows}
+use Rattle.pylock_diff.specs.Codes.{member_rows}
 use Rattle.pylock_diff.specs.Head.{HeadKey, head_key}
 use Rattle.pylock_diff.specs.SourceKeys.{source_rows}
-
--- the keys of an entry's table, and those of its sources of which no row tells
-pub record EntryCodesValue : Type 0 where
-  pub keys : Rows
-  pub inner : Rows
+use Rattle.pylock_diff.specs.declared.compared.EntryCodes.{EntryCodes}
 
 pub record ComparedValue : Type 0 where
   pub lock : LockValue
   pub head : List HeadKey
-  pub entries : List EntryCodesValue
+  pub entries : List EntryCodes
 
 -- ---- of a document
 
@@ -41,10 +37,10 @@ head_of no_members = []
 head_of (member key d ds) =
     if is_head_key key then head_key key d ∷ head_of ds else head_of ds
 
-abbrev pub entry_codes : Data → EntryCodesValue
+abbrev pub entry_codes : Data → EntryCodes
 entry_codes d = record { keys = member_rows (members_in d); inner = source_rows (members_in d) }
 
-abbrev pub item_codes : Items → List EntryCodesValue
+abbrev pub item_codes : Items → List EntryCodes
 item_codes no_items = []
 item_codes (item d ds) = entry_codes d ∷ item_codes ds
 

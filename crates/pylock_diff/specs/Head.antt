@@ -36,15 +36,10 @@ abbrev pub more_texts : Items → List ℕ
 more_texts no_items = []
 more_texts (item d ds) = codes "," ++ item_text d ++ more_texts ds
 
--- texts joined by `,`
-abbrev pub joined_texts : Items → List ℕ
-joined_texts no_items = []
-joined_texts (item d ds) = item_text d ++ more_texts ds
-
--- the same, and `[]` where there is none
+-- texts joined by `,`, and `[]` where there is none
 abbrev pub list_text : Data → List ℕ
 list_text (array no_items) = codes "[]"
-list_text (array (item d ds)) = joined_texts (item d ds)
+list_text (array (item d ds)) = item_text d ++ more_texts ds
 list_text d = item_text d
 
 abbrev pub head_key : List ℕ → Data → HeadKey
@@ -74,11 +69,16 @@ have_same_value old new = false
 abbrev pub key_change : List ℕ → (old new : Option HeadKey) → List ChangeValue
 key_change key old new =
     told_where (not (have_same_value old new))
-    (change_of Head key (option_map (λ one. one.text) old) (option_map (λ one. one.text) new))
+    (change_of Head (hidden key) (option_map (λ one. one.text) old)
+    (option_map (λ one. one.text) new))
+
+-- the same of what stands under a key
+abbrev pub head_told : List ℕ → (olds news : List HeadKey) → List ChangeValue
+head_told key olds news = key_change key (first olds) (first news)
 
 abbrev pub keys_changes : (olds news : List (Row HeadKey)) → List (List ℕ) → List ChangeValue
 keys_changes olds news keys =
-    flat_map (λ key. key_change key (first (values_at key olds)) (first (values_at key news))) keys
+    flat_map (λ key. head_told key (values_at key olds) (values_at key news)) keys
 
 -- the keys of which the texts are shown, and then the others in order of code point
 abbrev pub head_changes : (old new : List HeadKey) → List ChangeValue

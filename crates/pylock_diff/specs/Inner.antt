@@ -2,6 +2,3 @@
 pub mod Kept
 pub mod Lent
 pub mod Others
-pub mod Picked
-pub mod Placed
-pub mod Told

@@ -10,8 +10,8 @@ use Rattle.pylock_core.specs.Session.Picks.{SourceValue, source_in, sources}
 use Rattle.pylock_core.specs.Session.State.{State, entry_at}
 use Rattle.pylock_core.specs.declared.answer.Pick.{Pick}
 use Rattle.pylock_diff.specs.Codes.{Rows}
-use Rattle.pylock_diff.specs.Compared.{EntryCodesValue}
 use Rattle.pylock_diff.specs.Picks.{pick_fields}
+use Rattle.pylock_diff.specs.declared.compared.EntryCodes.{EntryCodes}
 
 -- A marker's text has no white space round it, and a set stands for its normal text. The keys are
 -- all that the entry has, with the codes of their values.
@@ -23,7 +23,7 @@ pub record ItemValue : Type 0 where
   pub keys : Rows
   pub inner : Rows
 
-abbrev pub entry_item : EntryValue → EntryCodesValue → Row ItemValue
+abbrev pub entry_item : EntryValue → EntryCodes → Row ItemValue
 entry_item entry codes = (
   entry.name,
   record {
@@ -37,30 +37,33 @@ entry_item entry codes = (
 )
 
 -- entries, each with its codes
-abbrev pub entry_items : List EntryValue → List EntryCodesValue → List (Row ItemValue)
+abbrev pub entry_items : List EntryValue → List EntryCodes → List (Row ItemValue)
 entry_items [] codes = []
 entry_items (entry ∷ entries) [] = []
 entry_items (entry ∷ entries) (code ∷ codes) = entry_item entry code ∷ entry_items entries codes
 
-abbrev pub picked_item : EntryValue → SourceValue → Row ItemValue
-picked_item entry source = (
-  entry.name,
+-- a pick's entry and source: its number is that of an entry that has its source, so they are there
+abbrev pub picked_entry : State → Pick → List (EntryValue × SourceValue)
+picked_entry state pick =
+    option_map_or
+    (λ entry. option_map_or (λ source. (entry, source) ∷ []) (source_in entry pick.source) [])
+    (entry_at pick.id state.entries) []
+
+abbrev pub picked_entries : State → List Pick → List (EntryValue × SourceValue)
+picked_entries state picks = flat_map (picked_entry state) picks
+
+abbrev pub picked_row : EntryValue × SourceValue → Row ItemValue
+picked_row pick = (
+  pick.0.name,
   record {
-    version = entry.version;
+    version = pick.0.version;
     marker = None;
     pythons = None;
-    sources = source ∷ [];
-    keys = pick_fields entry source;
+    sources = pick.1 ∷ [];
+    keys = pick_fields pick.0 pick.1;
     inner = [];
   },
 )
 
--- a pick's number is that of an entry that has its source, so it is there
-abbrev pub pick_item : State → Pick → List (Row ItemValue)
-pick_item state pick =
-    option_map_or
-    (λ entry. option_map_or (λ source. picked_item entry source ∷ []) (source_in entry pick.source)
-    []) (entry_at pick.id state.entries) []
-
 abbrev pub pick_items : State → List Pick → List (Row ItemValue)
-pick_items state picks = flat_map (pick_item state) picks
+pick_items state picks = map picked_row (picked_entries state picks)

@@ -1,7 +1,8 @@
 -- The keys of the entries of a name of which no other line tells.
-use Rattle.std.specs.Prelude.{ℕ, Bool, true, false, not, ◌&&◌, ◌||◌, ◌==◌, ◌++◌, List, [], ◌∷◌}
-use Rattle.std.specs.Prelude.{codes, map, suc, Some}
-use Rattle.std.specs.List.{flat_map, list_any}
+use Rattle.std.specs.Prelude.{ℕ, Bool, true, false, not, ◌&&◌, ◌||◌, ◌++◌, List, [], ◌∷◌, codes, map}
+use Rattle.std.specs.Prelude.{if◌then◌else◌, nat_eq, suc, Some}
+use Rattle.std.specs.Cmp.Lexicographic.{pointwise}
+use Rattle.std.specs.List.{join_by, list_any}
 use Rattle.std.specs.Str.{bytes_eq}
 use Rattle.pylock_compare.specs.Rows.{Row, under_each}
 use Rattle.pylock_diff.specs.Change.{ChangeValue, change_of, told_where}
@@ -17,29 +18,28 @@ use Rattle.pylock_diff.specs.declared.change.ChangeKind.TheVariants as kind
 abbrev pub Placed : Type 0
 Placed = ℕ × List ℕ
 
--- the rows of entries, the first of which has this place
-abbrev pub placed_rows : (ItemValue → Rows) → ℕ → List ItemValue → List (Row Placed)
-placed_rows rows place [] = []
-placed_rows rows place (item ∷ items) =
-    map (λ row. (row.0, (place, row.1))) (rows item) ++ placed_rows rows (suc place) items
+-- the keys of an entry, or those of its sources of which no row tells
+abbrev pub rows_of : (of_sources : Bool) → ItemValue → Rows
+rows_of of_sources item = if of_sources then item.inner else item.keys
 
--- the same value in the same entry
-abbrev pub is_same_value : (old new : Placed) → Bool
-is_same_value old new = (old.0 == new.0) && bytes_eq old.1 new.1
+-- the rows of an entry at this place
+abbrev pub placed_at : ℕ → Rows → List (Row Placed)
+placed_at place rows = map (λ row. (row.0, (place, row.1))) rows
+
+-- the rows of entries, the first of which has this place
+abbrev pub placed_rows : Bool → ℕ → List ItemValue → List (Row Placed)
+placed_rows of_sources place [] = []
+placed_rows of_sources place (item ∷ items) =
+    placed_at place (rows_of of_sources item) ++ placed_rows of_sources (suc place) items
 
 -- the same values in the same entries
 abbrev pub are_same_values : (olds news : List Placed) → Bool
-are_same_values [] [] = true
-are_same_values [] (new ∷ news) = false
-are_same_values (old ∷ olds) [] = false
-are_same_values (old ∷ olds) (new ∷ news) =
-    is_same_value old new && are_same_values olds news
+are_same_values = pointwise (λ (old new : Placed). nat_eq old.0 new.0 && bytes_eq old.1 new.1)
 
 -- the values as they are shown, joined by ` | `, or `-`
 abbrev pub values_text : List Placed → List ℕ
 values_text [] = codes "-"
-values_text (value ∷ values) =
-    shown value.1 ++ flat_map (λ other. codes " | " ++ shown other.1) values
+values_text (value ∷ values) = join_by (λ placed. shown placed.1) (codes " | ") (value ∷ values)
 
 abbrev pub key_text : List ℕ → List Placed → List ℕ
 key_text key values = hidden key ++ codes " " ++ values_text values
@@ -76,16 +76,17 @@ key_changes name told key olds news =
     told_where (not (is_told told key) && not (are_same_values olds news))
     (change_of kind.Key name (Some (key_text key olds)) (Some (key_text key news)))
 
-abbrev pub changes_by : (ItemValue → Rows) → List ℕ → List ChangeValue
-    → (olds news : List ItemValue) → List ChangeValue
-changes_by rows name told olds news =
-    under_each (key_changes name told) (placed_rows rows 0 olds) (placed_rows rows 0 news)
+-- of the keys of entries of which these changes don't tell
+abbrev pub changes_by : Bool → List ℕ → List ChangeValue → (olds news : List ItemValue)
+    → List ChangeValue
+changes_by of_sources name told olds news =
+    under_each (key_changes name told) (placed_rows of_sources 0 olds)
+    (placed_rows of_sources 0 news)
 
 -- of the keys of sources of which no row tells
 abbrev pub source_key_changes : List ℕ → (olds news : List ItemValue) → List ChangeValue
-source_key_changes name = changes_by (λ item. item.inner) name []
+source_key_changes name = changes_by true name []
 
--- of the keys of which these changes don't tell
 abbrev pub entry_key_changes : List ℕ → List ChangeValue → (olds news : List ItemValue)
     → List ChangeValue
-entry_key_changes = changes_by (λ item. item.keys)
+entry_key_changes = changes_by false

@@ -1,18 +1,17 @@
 -- When two plans pick the same: their picks, numbers apart, are the same multiset with all fields.
 -- The order of picks doesn't count.
-use Rattle.std.specs.Prelude.{ℕ, List, [], ◌∷◌, Option, IsPermutation}
+use Rattle.std.specs.Prelude.{ℕ, List, [], ◌∷◌, map, Option, IsPermutation}
 use Rattle.std.specs.Cmp.Lexicographic.{slice_cmp}
 use Rattle.std.specs.FinMap as map_of
-use Rattle.std.specs.List.{flat_map}
-use Rattle.std.specs.Option.{option_map_or}
 use Rattle.std.specs.Ordering.{nat_cmp}
 use Rattle.pylock_readers.specs.Entry.{EntryValue, FileValue, file_name}
 use Rattle.pylock_core.specs.Session.Picks.{SourceValue, OfVcs, OfDirectory, OfArchive, OfWheel}
-use Rattle.pylock_core.specs.Session.Picks.{OfSdist, source_in}
-use Rattle.pylock_core.specs.Session.State.{State, entry_at}
+use Rattle.pylock_core.specs.Session.Picks.{OfSdist}
+use Rattle.pylock_core.specs.Session.State.{State}
 use Rattle.pylock_core.specs.declared.answer.Answer.{Answer}
 use Rattle.pylock_core.specs.declared.answer.Answer.TheVariants.{Plan, Fault}
 use Rattle.pylock_core.specs.declared.answer.Pick.{Pick}
+use Rattle.pylock_diff.specs.Item.{picked_entries}
 
 -- hashes by algorithm: of each the value that comes last
 abbrev pub HashMap : Type 0
@@ -50,22 +49,15 @@ pub record PickValue : Type 0 where
   pub version : Option (List ℕ)
   pub source : SourceValue
 
-abbrev pub pick_value : EntryValue → SourceValue → PickValue
-pick_value entry source = record {
-  name = entry.name;
-  version = entry.version;
-  source = source_fields source;
+abbrev pub pick_value : EntryValue × SourceValue → PickValue
+pick_value pick = record {
+  name = pick.0.name;
+  version = pick.0.version;
+  source = source_fields pick.1;
 }
 
--- a pick's number is that of an entry that has its source, so it is there
-abbrev pub pick_values : State → Pick → List PickValue
-pick_values state pick =
-    option_map_or
-    (λ entry. option_map_or (λ source. pick_value entry source ∷ []) (source_in entry pick.source)
-    []) (entry_at pick.id state.entries) []
-
 abbrev pub numberless : State → List Pick → List PickValue
-numberless state picks = flat_map (pick_values state) picks
+numberless state picks = map pick_value (picked_entries state picks)
 
 -- both are plans, and pick the same
 abbrev pub PickTheSame : (old new : State) → Answer → Answer → Type 0

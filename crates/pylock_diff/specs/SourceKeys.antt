@@ -7,6 +7,8 @@ use Rattle.std.specs.List.{list_any}
 use Rattle.std.specs.Str.{bytes_eq}
 use Rattle.toml.specs.Data.{Data, Items, Members, array, get_member, item, no_items, table}
 use Rattle.pylock_diff.specs.Codes.{Rows, member_rows}
+use Rattle.pylock_diff.specs.declared.inner.SourceTable.{SourceTable}
+use Rattle.pylock_diff.specs.declared.inner.SourceTable.TheVariants as kinds
 
 abbrev pub is_one_of : List (List ℕ) → List ℕ → Bool
 is_one_of words key = list_any (bytes_eq key) words
@@ -24,21 +26,28 @@ archive_keys = codes "path" ∷ codes "hashes" ∷ codes "subdirectory" ∷ []
 abbrev pub file_keys : List (List ℕ)
 file_keys = codes "name" ∷ codes "url" ∷ codes "path" ∷ codes "hashes" ∷ []
 
--- with the URL, where it is the place
-abbrev pub with_place : List (List ℕ) → Members → List ℕ → Bool
-with_place told source key =
-    is_one_of told key
-    || (bytes_eq key (codes "url") && not (is_some (get_member (codes "path") source)))
+-- Whether a row tells of a key of a source, which has a path or hasn't. The URL of a checkout and of
+-- an archive is told where it is their place.
+abbrev pub told_by : SourceTable → (has_path : Bool) → List ℕ → Bool
+told_by kinds.Vcs has_path key =
+    is_one_of vcs_keys key || (bytes_eq key (codes "url") && not has_path)
+told_by kinds.Directory has_path key = is_one_of directory_keys key
+told_by kinds.Archive has_path key =
+    is_one_of archive_keys key || (bytes_eq key (codes "url") && not has_path)
+told_by kinds.File has_path key = is_one_of file_keys key
+
+abbrev pub source_told : SourceTable → Members → List ℕ → Bool
+source_told kind source key = told_by kind (is_some (get_member (codes "path") source)) key
 
 -- the others of a source, which is a table
-abbrev pub other_rows : (Members → List ℕ → Bool) → Option Data → Rows
-other_rows told (Some (table source)) =
-    filter (λ row. not (told source row.0)) (member_rows source)
-other_rows told field = []
+abbrev pub other_rows : SourceTable → Option Data → Rows
+other_rows kind (Some (table source)) =
+    filter (λ row. not (source_told kind source row.0)) (member_rows source)
+other_rows kind field = []
 
 abbrev pub wheel_rows : Items → Rows
 wheel_rows no_items = []
-wheel_rows (item d ds) = other_rows (λ source. is_one_of file_keys) (Some d) ++ wheel_rows ds
+wheel_rows (item d ds) = other_rows kinds.File (Some d) ++ wheel_rows ds
 
 abbrev pub wheels_rows : Option Data → Rows
 wheels_rows (Some (array items)) = wheel_rows items
@@ -47,8 +56,8 @@ wheels_rows field = []
 -- those of an entry, in the order of its sources
 abbrev pub source_rows : Members → Rows
 source_rows entry =
-    other_rows (with_place vcs_keys) (get_member (codes "vcs") entry)
-    ++ other_rows (λ source. is_one_of directory_keys) (get_member (codes "directory") entry)
-    ++ other_rows (with_place archive_keys) (get_member (codes "archive") entry)
+    other_rows kinds.Vcs (get_member (codes "vcs") entry)
+    ++ other_rows kinds.Directory (get_member (codes "directory") entry)
+    ++ other_rows kinds.Archive (get_member (codes "archive") entry)
     ++ wheels_rows (get_member (codes "wheels") entry)
-    ++ other_rows (λ source. is_one_of file_keys) (get_member (codes "sdist") entry)
+    ++ other_rows kinds.File (get_member (codes "sdist") entry)

@@ -1,5 +1,5 @@
 -- The sources of a name that one lock alone has (PEP 751, `packages`).
-use Rattle.std.specs.Prelude.{ℕ, Bool, not, ◌&&◌, ◌++◌, List, [], ◌∷◌, map, filter}
+use Rattle.std.specs.Prelude.{ℕ, Bool, false, true, not, ◌&&◌, ◌++◌, List, [], ◌∷◌, map, filter}
 use Rattle.std.specs.Prelude.{Some, None, unwrap_or, if◌then◌else◌}
 use Rattle.std.specs.List.{flat_map, list_any}
 use Rattle.pylock_readers.specs.Entry.{place_of}
@@ -67,9 +67,14 @@ lone_in others item =
 abbrev pub lone_sources : (items others : List ItemValue) → List SourceValue
 lone_sources items others = flat_map (lone_in others) items
 
+-- that a source is gone, or has come
+abbrev pub file_change : List ℕ → (gone : Bool) → SourceValue → ChangeValue
+file_change name gone source =
+    if gone then change_of File name (Some (source_text source)) None
+    else change_of File name None (Some (source_text source))
+
 -- those of OLD, and then those of NEW
 abbrev pub file_changes : List ℕ → (olds news : List ItemValue) → List ChangeValue
 file_changes name olds news =
-    map (λ source. change_of File name (Some (source_text source)) None) (lone_sources olds news)
-    ++ map (λ source. change_of File name None (Some (source_text source)))
-    (lone_sources news olds)
+    map (file_change name true) (lone_sources olds news)
+    ++ map (file_change name false) (lone_sources news olds)

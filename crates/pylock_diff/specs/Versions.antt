@@ -5,10 +5,9 @@ use Rattle.pyver_core.specs.Parsed.{parsed_version}
 use Rattle.pyver_core.specs.Version.OrderKey.{order_key}
 use Rattle.pyver_core.specs.Version.Parts.{Parts}
 use Rattle.pyver_core.specs.declared.version.error.VersionError.{VersionError}
-use Rattle.pylock_diff.specs.Change.{ChangeValue, change_of, told_where}
+use Rattle.pylock_diff.specs.Change.{ChangeValue, change_of, shown_texts, told_where}
 use Rattle.pylock_diff.specs.Item.{ItemValue}
-use Rattle.pylock_compare.specs.Texts.{Texts, are_alike, joined_if_any, or_dash}
-use Rattle.pylock_shown.specs.Hidden.{hidden}
+use Rattle.pylock_compare.specs.Texts.{Texts, are_alike}
 use Rattle.pylock_diff.specs.declared.change.ChangeKind.TheVariants.{Version}
 
 -- By what a version is compared: where the text is one, by its order key, which all its spellings
@@ -26,11 +25,9 @@ version_key item = option_map text_key item.version
 abbrev pub version_keys : List ItemValue → Texts
 version_keys items = map version_key items
 
--- the versions in order of entries as they are shown, joined by `,`, `-` for an entry without one;
--- nothing where there is no entry
+-- the versions in order of entries, as they are shown
 abbrev pub versions_text : List ItemValue → Option (List ℕ)
-versions_text items =
-    joined_if_any (codes ",") (map hidden (map (λ item. or_dash item.version) items))
+versions_text items = shown_texts (codes ",") (map (λ item. item.version) items)
 
 -- the lists of versions differ
 abbrev pub version_changes : List ℕ → (olds news : List ItemValue) → List ChangeValue

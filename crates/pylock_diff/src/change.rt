@@ -1,13 +1,11 @@
 //! A change, and what it says.
 
-ghost use Rattle.std.specs.Prelude.{◌≡◌, ◌++◌, ◌∷◌, [], IfOk, OnOk, Some, option_map, string_bytes};
+ghost use Rattle.std.specs.Prelude.{◌≡◌, ◌++◌, ◌∷◌, [], OnOk, option_map, string_bytes};
 ghost use Rattle.std.specs.Option.{option_copied};
 ghost use Rattle.pylock_diff.specs.Change.{change_of, change_word};
-ghost use Rattle.pylock_shown.specs.Hidden.{hidden};
 
 use pylock_shared::{LabelledText, SharedText, plain_text};
-use pylock_shown::hidden;
-use std::alloc::{AllocError, Global};
+use std::alloc::AllocError;
 use std::marker::Model;
 
 /// The kind of a change, in the order in which those of one name are told.
@@ -59,10 +57,10 @@ impl ChangeKind {
 /// what in a text of a lock may open a URL. The changes of a name share it, and those of the hashes
 /// of a file share what the file is called.
 pub struct Change {
-    kind: ChangeKind,
-    name: Option<SharedText>,
-    from: Option<LabelledText>,
-    to: Option<LabelledText>,
+    pub(crate) kind: ChangeKind,
+    pub(crate) name: Option<SharedText>,
+    pub(crate) from: Option<LabelledText>,
+    pub(crate) to: Option<LabelledText>,
 }
 
 impl Model for Change {
@@ -101,10 +99,7 @@ impl Change {
     pub fn name(&self) -> Option<&str>
         ensures { option_copied result ≡ self.now.name }
     {
-        match &self.name {
-            Some(name) => Some(name.as_str()),
-            None => None,
-        }
+        Some(self.name.as_ref()?.as_str())
     }
 
     /// What OLD has.
@@ -120,70 +115,13 @@ impl Change {
     {
         self.to.as_ref()
     }
-
-    /// A change of no name.
-    pub(crate) fn unnamed(kind: ChangeKind, from: Option<String>, to: Option<String>) -> Change
-        ensures { result ≡ record {
-          kind = kind;
-          name = None;
-          from = option_map string_bytes from;
-          to = option_map string_bytes to;
-        } }
-    {
-        Change {
-            kind,
-            name: None,
-            from: plain_text(from),
-            to: plain_text(to),
-        }
-    }
 }
 
-/// A name of which changes tell, with how it is shown, which they share. Contracts see the name.
-pub(crate) struct ChangedName<'a> {
-    name: &'a str,
-    shown: SharedText,
-}
-
-impl<'a> Model for ChangedName<'a> {
-    ghost use Rattle.std.specs.Prelude.{◌≡◌, List, ℕ};
-    ghost use Rattle.pylock_shown.specs.Hidden.{hidden};
-
-    ghost Value = { List ℕ };
-
-    ghost view = { λ n. n.name.now };
-
-    ghost invariant = { λ n. n.shown ≡ hidden n.name.now };
-}
-
-impl<'a> Drop for ChangedName<'a> {
-    fn drop(self) {
-        let ChangedName { name: _, shown: _ } = self;
-    }
-}
-
-impl<'a> ChangedName<'a> {
-    /// This name. It takes memory for how it is shown.
-    pub(crate) fn new(alloc: Global, name: &'a str) -> Result<ChangedName<'a>, AllocError>
-        ensures { IfOk result (λ changed. changed ≡ name.now) }
-    {
-        let shown = SharedText::new(alloc, hidden(alloc, name)?)?;
-        Ok(ChangedName { name, shown })
-    }
-
-    /// How it is shown.
-    fn shown(&self) -> Result<SharedText, AllocError>
-        ensures { IfOk result (λ shown. shown ≡ hidden self.now) }
-    {
-        self.shown.clone()
-    }
-}
-
-/// Adds a change of what stands under a name.
+/// Adds a change of what stands under a name, which is given as it is shown.
 pub(crate) fn push_change(
     changes: &mut Vec<Change>,
     kind: ChangeKind,
-    name: &ChangedName<'_>,
+    name: &SharedText,
     from: Option<String>,
     to: Option<String>,
 ) -> Result<(), AllocError>
@@ -197,14 +135,14 @@ pub(crate) fn push_change(
 pub(crate) fn push_labelled(
     changes: &mut Vec<Change>,
     kind: ChangeKind,
-    name: &ChangedName<'_>,
+    name: &SharedText,
     from: Option<LabelledText>,
     to: Option<LabelledText>,
 ) -> Result<(), AllocError>
     ensures { OnOk result (changes.new.items
         ≡ changes.old.items ++ change_of kind name.now from to ∷ []) }
 {
-    let name = Some(name.shown()?);
+    let name = Some(name.clone()?);
     changes.push(Change {
         kind,
         name,

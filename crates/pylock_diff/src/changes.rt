@@ -11,8 +11,8 @@ use crate::compared::Compared;
 use crate::head::push_head;
 use crate::item::{entries_picked, entry_items, pick_items};
 use crate::names::push_items;
-use crate::picks::pick_codes;
 use pylock_core::{Answer, Pick, Session, fault_word};
+use pylock_shared::plain_text;
 use std::alloc::{AllocError, Global};
 
 /// What changed from one lock to another: first keys of the head, then of each name, in order of
@@ -39,26 +39,11 @@ pub fn plan_changes(alloc: Global, old: &Session, new: &Session) -> Result<Vec<C
         ≡ answer_changes old.now.state new.now.state (answer old.now.state)
         (answer new.now.state)) }
 {
-    let before = old.answer()?;
-    let after = new.answer()?;
-    answers_changes(alloc, (old, &before), (new, &after))
-}
-
-/// The same of two answers, each with its session.
-fn answers_changes(
-    alloc: Global,
-    old: (&Session, &Answer),
-    new: (&Session, &Answer),
-) -> Result<Vec<Change>, AllocError>
-    ensures { IfOk result (λ changes. changes.items
-        ≡ answer_changes old.entry.0.now.state new.entry.0.now.state old.entry.1.now
-        new.entry.1.now) }
-{
-    match (old.1, new.1) {
+    match (old.answer()?, new.answer()?) {
         (Answer::Plan(olds), Answer::Plan(news)) => {
-            picks_changes(alloc, (old.0, olds.picks()), (new.0, news.picks()))
+            picks_changes(alloc, (old, olds.picks()), (new, news.picks()))
         }
-        (before, after) => fault_changes(alloc, before, after),
+        (before, after) => fault_changes(alloc, &before, &after),
     }
 }
 
@@ -75,10 +60,8 @@ fn picks_changes(
     let mut changes = Vec::new(alloc);
     let before = entries_picked(alloc, old.0, old.1)?;
     let after = entries_picked(alloc, new.0, new.1)?;
-    let old_codes = pick_codes(alloc, before.as_slice())?;
-    let new_codes = pick_codes(alloc, after.as_slice())?;
-    let olds = pick_items(alloc, before.as_slice(), old_codes.as_slice())?;
-    let news = pick_items(alloc, after.as_slice(), new_codes.as_slice())?;
+    let olds = pick_items(alloc, before.as_slice())?;
+    let news = pick_items(alloc, after.as_slice())?;
     push_items(alloc, &mut changes, olds.as_slice(), news.as_slice())?;
     Ok(changes)
 }
@@ -87,10 +70,15 @@ fn picks_changes(
 fn fault_changes(alloc: Global, old: &Answer, new: &Answer) -> Result<Vec<Change>, AllocError>
     ensures { IfOk result (λ changes. changes.items ≡ fault_change old.now new.now ∷ []) }
 {
-    let from = fault_text(alloc, old)?;
-    let to = fault_text(alloc, new)?;
+    let from = plain_text(fault_text(alloc, old)?);
+    let to = plain_text(fault_text(alloc, new)?);
     let mut changes = Vec::new(alloc);
-    changes.push(Change::unnamed(ChangeKind::Fault, from, to))?;
+    changes.push(Change {
+        kind: ChangeKind::Fault,
+        name: None,
+        from,
+        to,
+    })?;
     Ok(changes)
 }
 

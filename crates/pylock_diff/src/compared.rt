@@ -21,20 +21,10 @@ use std::alloc::{AllocError, Global};
 use std::marker::Model;
 use toml::{Table, Value};
 
-/// The keys of an entry: those of its table, and those of its sources of which no other line tells.
-///
-/// Contracts see both.
+/// The keys of an entry: those of its table, and those of its sources of which no row tells.
 pub(crate) struct EntryCodes {
-    keys: Codes,
-    inner: Codes,
-}
-
-impl Model for EntryCodes {
-    ghost use Rattle.pylock_diff.specs.Compared.{EntryCodesValue};
-
-    ghost Value = { EntryCodesValue };
-
-    ghost view = { λ e. record { keys = e.keys; inner = e.inner } };
+    pub(crate) keys: Codes,
+    pub(crate) inner: Codes,
 }
 
 impl Drop for EntryCodes {
@@ -62,30 +52,11 @@ impl EntryCodes {
     {
         match value {
             Value::Table(table) => EntryCodes::of(alloc, table),
-            _ => Ok(EntryCodes::new(Codes::new(alloc), alloc)),
+            _ => Ok(EntryCodes {
+                keys: Codes::new(alloc),
+                inner: Codes::new(alloc),
+            }),
         }
-    }
-
-    /// Keys, and none of sources.
-    pub(crate) fn new(keys: Codes, alloc: Global) -> EntryCodes
-        ensures { result ≡ record { keys = keys; inner = [] } }
-    {
-        let inner = Codes::new(alloc);
-        EntryCodes { keys, inner }
-    }
-
-    /// The keys of the table.
-    pub(crate) fn keys(&self) -> &Codes
-        ensures { result.now ≡ self.now.keys }
-    {
-        &self.keys
-    }
-
-    /// The keys of sources.
-    pub(crate) fn inner(&self) -> &Codes
-        ensures { result.now ≡ self.now.inner }
-    {
-        &self.inner
     }
 }
 

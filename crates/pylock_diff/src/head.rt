@@ -1,24 +1,23 @@
 //! The head of a lock, key by key.
 
-ghost use Rattle.std.specs.Prelude.{◌≡◌, ◌++◌, ◌∷◌, [], List, ℕ, IfOk, OnOk, filter, map, not};
+ghost use Rattle.std.specs.Prelude.{◌≡◌, ◌++◌, IfOk, OnOk, filter, map, not};
 ghost use Rattle.std.specs.Prelude.{option_map, string_bytes};
 ghost use Rattle.std.specs.Option.{option_copied};
 ghost use Rattle.toml.specs.Data.{array};
 ghost use Rattle.toml.specs.View.{items_view, table_view, view};
-ghost use Rattle.pylock_compare.specs.Lent.{found, lent_texts};
-ghost use Rattle.pylock_compare.specs.Rows.{Row, values_at};
+ghost use Rattle.pylock_compare.specs.Lent.{each_told, lent_texts};
 ghost use Rattle.pylock_diff.specs.Compared.{head_of, is_head_key};
-ghost use Rattle.pylock_diff.specs.Head.{HeadKey as HeadKeyValue, head_changes, head_key};
-ghost use Rattle.pylock_diff.specs.Head.{head_rows, is_list_key, key_change, keys_changes};
-ghost use Rattle.pylock_diff.specs.Head.{have_same_value, item_text, list_text};
+ghost use Rattle.pylock_diff.specs.Head.{head_changes, head_key, head_rows, head_told};
+ghost use Rattle.pylock_diff.specs.Head.{have_same_value, is_list_key, item_text, key_change};
+ghost use Rattle.pylock_diff.specs.Head.{list_text};
 ghost use Rattle.pylock_diff.specs.Inner.Kept.{HasProperHead};
-ghost use Rattle.pylock_diff.specs.Inner.Lent.{key_row, lent_keys};
+ghost use Rattle.pylock_diff.specs.Inner.Lent.{key_row};
 ghost use Rattle.pytoml_code.specs.Proper.{IsProper};
 
-use crate::change::{Change, ChangeKind, ChangedName, push_change};
-use crate::texts::owned;
+use crate::change::{Change, ChangeKind, push_change};
 use pylock_compare::Sides;
-use pylock_shown::push_hidden;
+use pylock_shared::SharedText;
+use pylock_shown::{hidden, push_hidden};
 use pytoml_code::{push_code, shown_code};
 use std::alloc::{AllocError, Global};
 use std::marker::Model;
@@ -112,36 +111,31 @@ fn is_list_key(key: &str) -> bool
 fn list_text(alloc: Global, value: &Value) -> Result<String, AllocError>
     ensures { IfOk result (λ text. string_bytes text ≡ list_text (view value.now)) }
 {
+    let mut text = String::new(alloc);
     match value {
-        Value::Array(items) => items_text(alloc, items.as_slice()),
-        _ => item_text(alloc, value),
+        Value::Array(items) => push_items(&mut text, items.as_slice())?,
+        _ => push_item(&mut text, value)?,
     }
+    Ok(text)
 }
 
-fn items_text(alloc: Global, items: &[Value]) -> Result<String, AllocError>
-    ensures { IfOk result (λ text. string_bytes text ≡ list_text (array (items_view items.now))) }
+fn push_items(text: &mut String, items: &[Value]) -> Result<(), AllocError>
+    ensures { OnOk result (string_bytes text.new
+        ≡ string_bytes text.old ++ list_text (array (items_view items.now))) }
 {
     let [first, others @ ..] = items else {
-        return String::from_str(alloc, "[]");
+        return text.push_str("[]");
     };
-    let mut text = item_text(alloc, first)?;
+    push_item(text, first)?;
     for item in others {
         text.push_str(",")?;
-        push_item_text(&mut text, item)?;
+        push_item(text, item)?;
     }
-    Ok(text)
+    Ok(())
 }
 
-/// A text as it is shown, and nothing of another value.
-fn item_text(alloc: Global, item: &Value) -> Result<String, AllocError>
-    ensures { IfOk result (λ text. string_bytes text ≡ item_text (view item.now)) }
-{
-    let mut text = String::new(alloc);
-    push_item_text(&mut text, item)?;
-    Ok(text)
-}
-
-fn push_item_text(text: &mut String, item: &Value) -> Result<(), AllocError>
+/// Adds a text as it is shown, and nothing of another value.
+fn push_item(text: &mut String, item: &Value) -> Result<(), AllocError>
     ensures { OnOk result (string_bytes text.new
         ≡ string_bytes text.old ++ item_text (view item.now)) }
 {
@@ -204,11 +198,8 @@ fn push_keys(
     sides: &Sides<'_, &HeadKey>,
     keys: &[&str],
 ) -> Result<(), AllocError>
-    ensures { (olds news : List (Row HeadKeyValue))
-        → ((key : List ℕ) → lent_keys (found sides.now.olds key) ≡ values_at key olds)
-        → ((key : List ℕ) → lent_keys (found sides.now.news key) ≡ values_at key news)
-        → OnOk result (changes.new.items
-        ≡ changes.old.items ++ keys_changes olds news (lent_texts keys.now)) }
+    ensures { OnOk result (changes.new.items
+        ≡ changes.old.items ++ each_told (λ key. key.now) head_told sides.now keys.now) }
 {
     for key in keys {
         let old = sides.old(key).first();
@@ -232,9 +223,9 @@ fn push_key(
     if are_same(old, new) {
         return Ok(());
     }
-    let from = owned(alloc, text_of(old))?;
-    let to = owned(alloc, text_of(new))?;
-    let key = ChangedName::new(alloc, key)?;
+    let from = text_of(alloc, old)?;
+    let to = text_of(alloc, new)?;
+    let key = SharedText::new(alloc, hidden(alloc, key)?)?;
     push_change(changes, ChangeKind::Head, &key, from, to)
 }
 
@@ -248,8 +239,12 @@ fn are_same(old: Option<&HeadKey>, new: Option<&HeadKey>) -> bool
     }
 }
 
-fn text_of(key: Option<&HeadKey>) -> Option<&str>
-    ensures { option_copied result ≡ option_map (λ one. one.text) (option_copied key.entry) }
+fn text_of(alloc: Global, key: Option<&HeadKey>) -> Result<Option<String>, AllocError>
+    ensures { IfOk result (λ text. option_map string_bytes text
+        ≡ option_map (λ one. one.text) (option_copied key.entry)) }
 {
-    Some(key?.text.as_str())
+    match key {
+        Some(key) => Ok(Some(key.text.clone()?)),
+        None => Ok(None),
+    }
 }

@@ -2,11 +2,10 @@
 //! that PEP 751 doesn't name.
 
 ghost use Rattle.std.specs.Prelude.{◌≡◌, ◌++◌, IfOk, OnOk, Some, option_map};
-ghost use Rattle.toml.specs.Data.{get_member, table};
-ghost use Rattle.toml.specs.View.{items_view, table_view, view};
-ghost use Rattle.pylock_diff.specs.Inner.Told.{source_told, told_by};
+ghost use Rattle.toml.specs.Data.{table};
+ghost use Rattle.toml.specs.View.{table_view, view};
 ghost use Rattle.pylock_diff.specs.SourceKeys.{archive_keys, is_one_of, other_rows, source_rows};
-ghost use Rattle.pylock_diff.specs.SourceKeys.{vcs_keys, wheel_rows, wheels_rows};
+ghost use Rattle.pylock_diff.specs.SourceKeys.{told_by, vcs_keys, wheels_rows};
 
 use crate::codes::Codes;
 use std::alloc::{AllocError, Global};
@@ -48,15 +47,9 @@ fn push_wheels(alloc: Global, codes: &mut Codes, field: Option<&Value>) -> Resul
     ensures { OnOk result (codes.new
         ≡ codes.old ++ wheels_rows (option_map (λ v. view v.now) field.entry)) }
 {
-    match field {
-        Some(Value::Array(wheels)) => push_each(alloc, codes, wheels.as_slice()),
-        _ => Ok(()),
-    }
-}
-
-fn push_each(alloc: Global, codes: &mut Codes, wheels: &[Value]) -> Result<(), AllocError>
-    ensures { OnOk result (codes.new ≡ codes.old ++ wheel_rows (items_view wheels.now)) }
-{
+    let Some(Value::Array(wheels)) = field else {
+        return Ok(());
+    };
     for wheel in wheels {
         push_source(alloc, codes, SourceTable::File, Some(wheel))?;
     }
@@ -71,7 +64,7 @@ fn push_source(
     field: Option<&Value>,
 ) -> Result<(), AllocError>
     ensures { OnOk result (codes.new ≡ codes.old
-        ++ other_rows (source_told kind) (option_map (λ v. view v.now) field.entry)) }
+        ++ other_rows kind (option_map (λ v. view v.now) field.entry)) }
 {
     match field {
         Some(Value::Table(source)) => push_others(alloc, codes, kind, source),
@@ -86,7 +79,7 @@ fn push_others(
     source: &Table,
 ) -> Result<(), AllocError>
     ensures { OnOk result (codes.new ≡ codes.old
-        ++ other_rows (source_told kind) (Some (table (table_view source.now)))) }
+        ++ other_rows kind (Some (table (table_view source.now)))) }
 {
     let has_path = source.get("path").is_some();
     for (key, value) in source.iter() {
@@ -97,8 +90,7 @@ fn push_others(
     Ok(())
 }
 
-/// Whether another line tells of a key of a source, which has a path or hasn't. The URL of a
-/// checkout and of an archive is told where it is their place.
+/// Whether another line tells of a key of a source, which has a path or hasn't.
 fn is_told(kind: SourceTable, has_path: bool, key: &str) -> bool
     ensures { result ≡ told_by kind has_path key.now }
 {

@@ -1,17 +1,14 @@
 //! What is compared: the entries of a lock, or the picks of a plan.
 
-ghost use Rattle.std.specs.Prelude.{◌≡◌, ◌++◌, IfOk, OnOk, List, map, option_map};
-ghost use Rattle.std.specs.List.{flat_map};
+ghost use Rattle.std.specs.Prelude.{◌≡◌, ◌++◌, IfOk, OnOk, map, option_map};
 ghost use Rattle.std.specs.Option.{option_copied};
 ghost use Rattle.pylock_core.specs.Session.Picks.{lent_named, lent_source};
-ghost use Rattle.pylock_diff.specs.Inner.Lent.{item_row, lent_item};
-ghost use Rattle.pylock_diff.specs.Inner.Picked.{lent_pick, picked_codes, picked_entries};
-ghost use Rattle.pylock_diff.specs.Inner.Picked.{picked_entry, picked_row};
-ghost use Rattle.pylock_diff.specs.Item.{entry_items};
+ghost use Rattle.pylock_diff.specs.Inner.Lent.{item_row, lent_item, lent_pick};
+ghost use Rattle.pylock_diff.specs.Item.{entry_items, pick_items, picked_entry, picked_row};
 ghost use Rattle.pylock_diff.specs.Versions.{text_key, version_key};
 
-use crate::codes::Codes;
 use crate::compared::EntryCodes;
+use crate::picks::pick_codes;
 use crate::versions::text_key;
 use pylock_core::{Entry, NamedSource, Pick, PickedSource, Session, sources};
 use std::alloc::{AllocError, Global};
@@ -20,8 +17,8 @@ use std::marker::Model;
 /// An entry, or a pick of it: then its source counts alone. Beside it the codes of all its keys.
 #[derive(Clone, Copy)]
 pub(crate) struct Item<'a> {
-    pub(crate) package: &'a Entry,
-    pub(crate) picked: Option<PickedSource<'a>>,
+    package: &'a Entry,
+    picked: Option<PickedSource<'a>>,
     pub(crate) codes: &'a EntryCodes,
 }
 
@@ -108,11 +105,21 @@ pub(crate) fn entry_items<'a>(
     Ok(rows)
 }
 
-/// A pick with its entry and its source.
-#[derive(Clone, Copy)]
+/// A pick with its entry, its source, and its fields as codes.
 pub(crate) struct Picked<'a> {
-    pub(crate) package: &'a Entry,
-    pub(crate) source: PickedSource<'a>,
+    package: &'a Entry,
+    source: PickedSource<'a>,
+    codes: EntryCodes,
+}
+
+impl<'a> Drop for Picked<'a> {
+    fn drop(self) {
+        let Picked {
+            package: _,
+            source: _,
+            codes: _,
+        } = self;
+    }
 }
 
 /// The picks of a plan, in its order.
@@ -122,23 +129,24 @@ pub(crate) fn entries_picked<'a>(
     picks: &[Pick],
 ) -> Result<Vec<Picked<'a>>, AllocError>
     ensures { IfOk result (λ list. map lent_pick list.items
-        ≡ picked_entries session.now.state picks.now) }
+        ≡ pick_items session.now.state picks.now) }
 {
     let mut list = Vec::with_capacity(alloc, picks.len())?;
     for pick in picks {
-        push_picked(&mut list, session, pick)?;
+        push_picked(alloc, &mut list, session, pick)?;
     }
     Ok(list)
 }
 
 /// Adds a pick, whose entry has its source.
 fn push_picked<'a>(
+    alloc: Global,
     list: &mut Vec<Picked<'a>>,
     session: &'a Session,
     pick: &Pick,
 ) -> Result<(), AllocError>
-    ensures { OnOk result (map lent_pick list.new.items
-        ≡ map lent_pick list.old.items ++ picked_entry session.now.state pick.now) }
+    ensures { OnOk result (map lent_pick list.new.items ≡ map lent_pick list.old.items
+        ++ map picked_row (picked_entry session.now.state pick.now)) }
 {
     let Some(package) = session.entry(pick.id) else {
         return Ok(());
@@ -146,36 +154,32 @@ fn push_picked<'a>(
     let Some(source) = pick.source.of(package) else {
         return Ok(());
     };
-    list.push(Picked { package, source })?;
+    let codes = pick_codes(alloc, package, source)?;
+    list.push(Picked {
+        package,
+        source,
+        codes,
+    })?;
     Ok(())
 }
 
-/// The picks of a plan, each under the name of its entry, with these codes of them.
+/// The picks of a plan, each under the name of its entry.
 pub(crate) fn pick_items<'a>(
     alloc: Global,
-    picks: &[Picked<'a>],
-    codes: &'a [EntryCodes],
+    picks: &'a [Picked<'a>],
 ) -> Result<Vec<(&'a str, Item<'a>)>, AllocError>
-    ensures { IfOk result (λ rows. codes.now ≡ map picked_codes (map lent_pick picks.now)
-        → map item_row rows.items ≡ map picked_row (map lent_pick picks.now)) }
+    ensures { IfOk result (λ rows. map item_row rows.items ≡ map lent_pick picks.now) }
 {
     let mut rows = Vec::with_capacity(alloc, picks.len())?;
-    let mut left = codes;
     for pick in picks {
-        let [codes, rest @ ..] = left else {
-            return Ok(rows);
-        };
-        let package = pick.package;
-        let picked = Some(pick.source);
         rows.push((
-            package.name(),
+            pick.package.name(),
             Item {
-                package,
-                picked,
-                codes,
+                package: pick.package,
+                picked: Some(pick.source),
+                codes: &pick.codes,
             },
         ))?;
-        left = rest;
     }
     Ok(rows)
 }
@@ -231,11 +235,11 @@ impl<'a> Keyed<'a> {
         })
     }
 
-    /// The version, as written.
-    pub(crate) fn version(&self) -> Option<&'a str>
-        ensures { option_copied result ≡ self.now.version }
+    /// The item.
+    pub(crate) fn item(&self) -> &Item<'a>
+        ensures { lent_item result.now ≡ self.now }
     {
-        self.item.version()
+        &self.item
     }
 
     /// By what its version is compared.
@@ -243,34 +247,6 @@ impl<'a> Keyed<'a> {
         ensures { option_copied result ≡ version_key self.now }
     {
         self.key.as_deref()
-    }
-
-    /// The marker, without white space round it.
-    pub(crate) fn marker(&self) -> Option<&'a str>
-        ensures { option_copied result ≡ self.now.marker }
-    {
-        self.item.marker()
-    }
-
-    /// The normal text of the set of Pythons.
-    pub(crate) fn pythons(&self) -> Option<&'a str>
-        ensures { option_copied result ≡ self.now.pythons }
-    {
-        self.item.pythons()
-    }
-
-    /// The keys of its sources of which no other line tells.
-    pub(crate) fn inner(&self) -> &'a Codes
-        ensures { result.now ≡ self.now.inner }
-    {
-        self.item.codes.inner()
-    }
-
-    /// The keys of its table.
-    pub(crate) fn keys(&self) -> &'a Codes
-        ensures { result.now ≡ self.now.keys }
-    {
-        self.item.codes.keys()
     }
 
     /// Its sources, in their order.

@@ -1,18 +1,18 @@
 //! Keys of entries: those of which no other line tells.
 
 ghost use Rattle.std.specs.Prelude.{◌≡◌, ◌++◌, IfOk, OnOk, map, string_bytes};
-ghost use Rattle.pylock_compare.specs.Rows.{under_each};
+ghost use Rattle.pylock_compare.specs.Lent.{told_under};
 ghost use Rattle.pylock_diff.specs.Codes.{code_row};
-ghost use Rattle.pylock_diff.specs.Inner.Placed.{lent_place, lent_places, more_values, place_row};
-ghost use Rattle.pylock_diff.specs.Inner.Placed.{placed_at};
-ghost use Rattle.pylock_diff.specs.Keys.{are_same_values, entry_key_changes, is_same_value};
-ghost use Rattle.pylock_diff.specs.Keys.{is_source_key};
-ghost use Rattle.pylock_diff.specs.Keys.{is_told, key_changes, key_text, placed_rows};
-ghost use Rattle.pylock_diff.specs.Keys.{source_key_changes, tells_of, values_text};
+ghost use Rattle.pylock_diff.specs.Inner.Lent.{lent_place, lent_places, place_row};
+ghost use Rattle.pylock_diff.specs.Keys.{are_same_values, changes_by, is_source_key, is_told};
+ghost use Rattle.pylock_diff.specs.Keys.{key_changes, key_text, placed_at, placed_rows, rows_of};
+ghost use Rattle.pylock_diff.specs.Keys.{tells_of, values_text};
 
-use crate::change::{Change, ChangeKind, ChangedName, push_change};
+use crate::change::{Change, ChangeKind, push_change};
+use crate::codes::Codes;
 use crate::item::Keyed;
 use pylock_compare::Sides;
+use pylock_shared::SharedText;
 use pylock_shown::hidden;
 use pytoml_code::shown_code;
 use std::alloc::{AllocError, Global};
@@ -20,66 +20,51 @@ use std::alloc::{AllocError, Global};
 /// A code, and the place of its entry among those of a name.
 type Placed<'a> = (usize, &'a [u8]);
 
-/// Adds a line for each key of sources that differs and of which no other line tells.
-pub(crate) fn push_inner_keys(
-    alloc: Global,
-    changes: &mut Vec<Change>,
-    name: &ChangedName<'_>,
-    olds: &[Keyed<'_>],
-    news: &[Keyed<'_>],
-) -> Result<(), AllocError>
-    ensures { OnOk result (changes.new.items
-        ≡ changes.old.items ++ source_key_changes name.now olds.now news.now) }
-{
-    let olds = inner_rows(alloc, olds)?;
-    let news = inner_rows(alloc, news)?;
-    push_each(alloc, changes, name, &[], olds.as_slice(), news.as_slice())
-}
-
 /// Adds a line for each key of the entries that differs, entry by entry, unless one of these
-/// changes tells of it.
+/// changes tells of it; or for each key of their sources of which no row tells.
 pub(crate) fn push_keys(
     alloc: Global,
     changes: &mut Vec<Change>,
-    name: &ChangedName<'_>,
+    name: &SharedText,
     told: &[Change],
-    olds: &[Keyed<'_>],
-    news: &[Keyed<'_>],
+    items: (&[Keyed<'_>], &[Keyed<'_>]),
+    of_sources: bool,
 ) -> Result<(), AllocError>
-    ensures { OnOk result (changes.new.items
-        ≡ changes.old.items ++ entry_key_changes name.now told.now olds.now news.now) }
+    ensures { OnOk result (changes.new.items ≡ changes.old.items
+        ++ changes_by of_sources name.now told.now items.entry.0.now items.entry.1.now) }
 {
-    let olds = key_rows(alloc, olds)?;
-    let news = key_rows(alloc, news)?;
-    push_each(alloc, changes, name, told, olds.as_slice(), news.as_slice())
+    let olds = placed_rows(alloc, items.0, of_sources)?;
+    let news = placed_rows(alloc, items.1, of_sources)?;
+    let sides = Sides::new(alloc, olds.as_slice(), news.as_slice())?;
+    push_each(alloc, changes, name, told, &sides)?;
+    Ok(())
 }
 
-fn inner_rows<'a>(
+/// The codes of the entries, each under its key.
+fn placed_rows<'a>(
     alloc: Global,
     items: &[Keyed<'a>],
+    of_sources: bool,
 ) -> Result<Vec<(&'a str, Placed<'a>)>, AllocError>
     ensures { IfOk result (λ rows. map place_row rows.items
-        ≡ placed_rows (λ item. item.inner) 0 items.now) }
+        ≡ placed_rows of_sources 0 items.now) }
 {
     let mut rows = Vec::new(alloc);
     for (place, item) in items.iter().enumerate() {
-        push_rows(&mut rows, place, item.inner().rows())?;
+        push_rows(&mut rows, place, codes_of(item, of_sources).rows())?;
     }
     Ok(rows)
 }
 
-fn key_rows<'a>(
-    alloc: Global,
-    items: &[Keyed<'a>],
-) -> Result<Vec<(&'a str, Placed<'a>)>, AllocError>
-    ensures { IfOk result (λ rows. map place_row rows.items
-        ≡ placed_rows (λ item. item.keys) 0 items.now) }
+fn codes_of<'a>(item: &Keyed<'a>, of_sources: bool) -> &'a Codes
+    ensures { result.now ≡ rows_of of_sources item.now }
 {
-    let mut rows = Vec::new(alloc);
-    for (place, item) in items.iter().enumerate() {
-        push_rows(&mut rows, place, item.keys().rows())?;
+    let codes = item.item().codes;
+    if of_sources {
+        &codes.inner
+    } else {
+        &codes.keys
     }
-    Ok(rows)
 }
 
 fn push_rows<'a>(
@@ -99,43 +84,34 @@ fn push_rows<'a>(
 fn push_each<'a>(
     alloc: Global,
     changes: &mut Vec<Change>,
-    name: &ChangedName<'_>,
+    name: &SharedText,
     told: &[Change],
-    olds: &[(&'a str, Placed<'a>)],
-    news: &[(&'a str, Placed<'a>)],
+    sides: &Sides<'a, Placed<'a>>,
 ) -> Result<(), AllocError>
     ensures { OnOk result (changes.new.items ≡ changes.old.items
-        ++ under_each (key_changes name.now told.now)
-        (map place_row olds.now) (map place_row news.now)) }
+        ++ told_under lent_place (key_changes name.now told.now) sides.now) }
 {
-    let sides = Sides::new(alloc, olds, news)?;
     for key in &sides.names {
-        push_key(
-            alloc,
-            changes,
-            (name, told),
-            key,
-            sides.old(key),
-            sides.new_values(key),
-        )?;
+        let values = (sides.old(key), sides.new_values(key));
+        push_key(alloc, changes, (name, told), key, values)?;
     }
     Ok(())
 }
 
 /// Adds that a key differs, where it does and none of these changes of the name tells of it.
-fn push_key(
+fn push_key<'x>(
     alloc: Global,
     changes: &mut Vec<Change>,
-    named: (&ChangedName<'_>, &[Change]),
+    named: (&SharedText, &[Change]),
     key: &str,
-    olds: &[Placed<'_>],
-    news: &[Placed<'_>],
+    values: (&[Placed<'x>], &[Placed<'x>]),
 ) -> Result<(), AllocError>
     ensures { OnOk result (changes.new.items ≡ changes.old.items
         ++ key_changes named.entry.0.now named.entry.1.now key.now
-        (lent_places olds.now) (lent_places news.now)) }
+        (lent_places values.entry.0.now) (lent_places values.entry.1.now)) }
 {
     let (name, told) = named;
+    let (olds, news) = values;
     if is_told(told, key) || are_same(olds, news) {
         return Ok(());
     }
@@ -144,26 +120,10 @@ fn push_key(
     push_change(changes, ChangeKind::Key, name, Some(from), Some(to))
 }
 
-fn are_same(olds: &[Placed<'_>], news: &[Placed<'_>]) -> bool
+fn are_same<'x>(olds: &[Placed<'x>], news: &[Placed<'x>]) -> bool
     ensures { result ≡ are_same_values (lent_places olds.now) (lent_places news.now) }
 {
-    let mut left = news;
-    for old in olds {
-        let [new, rest @ ..] = left else {
-            return false;
-        };
-        if !is_same(*old, *new) {
-            return false;
-        }
-        left = rest;
-    }
-    matches!(left, [])
-}
-
-fn is_same(old: Placed<'_>, new: Placed<'_>) -> bool
-    ensures { result ≡ is_same_value (lent_place old.entry) (lent_place new.entry) }
-{
-    old.0 == new.0 && old.1 == new.1
+    olds == news
 }
 
 /// The key and its values joined by ` | `, or `-`, each as it is shown.
@@ -183,20 +143,11 @@ fn values_text(alloc: Global, values: &[Placed<'_>]) -> Result<String, AllocErro
         return String::from_str(alloc, "-");
     };
     let mut text = shown_code(alloc, first.1)?;
-    push_others(alloc, &mut text, others)?;
-    Ok(text)
-}
-
-/// Adds the values, each behind ` | `.
-fn push_others(alloc: Global, text: &mut String, others: &[Placed<'_>]) -> Result<(), AllocError>
-    ensures { OnOk result (string_bytes text.new
-        ≡ string_bytes text.old ++ more_values (lent_places others.now)) }
-{
     for other in others {
         text.push_str(" | ")?;
         text.push_str(shown_code(alloc, other.1)?.as_str())?;
     }
-    Ok(())
+    Ok(text)
 }
 
 // ---- which key which change tells of

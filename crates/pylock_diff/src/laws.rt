@@ -50,7 +50,6 @@ pub fn nothing_changes_what_is_installed()
 {}
 
 /// A lock has no change from itself, and neither has a plan.
-#[tactic(auto, using(crate::proofs::ChangeLemmas::from_itself))]
 pub fn nothing_changes_from_itself()
     ensures locks { (lock : ComparedValue) → lock_changes lock lock ≡ [] }
     ensures plans { (state : State) (picks : List Pick)
@@ -58,7 +57,6 @@ pub fn nothing_changes_from_itself()
 {}
 
 /// `added` and `removed` change places when OLD and NEW do, and nothing else becomes one of them.
-#[tactic(auto, using(crate::proofs::TurnedLemmas::all_turned))]
 pub fn added_and_removed_change_places()
     ensures locks { (old new : ComparedValue) → coming_and_going (lock_changes new old)
         ≡ map turned (coming_and_going (lock_changes old new)) }
@@ -69,7 +67,6 @@ pub fn added_and_removed_change_places()
 
 /// There is no change of two answers exactly where both are plans whose picks, numbers apart, are
 /// the same, each with all its fields.
-#[tactic(auto, using(crate::proofs::PlanLemmas::same_picks))]
 pub fn nothing_changes_exactly_where_the_picks_are_the_same()
     ensures told { (old new : State) (before after : Answer)
         → answer_changes old new before after ≡ [] → PickTheSame old new before after }
@@ -95,7 +92,6 @@ pub fn the_same_picks_change_nothing()
 {}
 
 /// Each pick of an answer is compared: none lacks its entry or its source.
-#[tactic(auto, using(crate::proofs::StandLemmas::all_values))]
 pub fn no_pick_is_left_out()
     ensures { (state : State) (plan : List Pick) → NumbersRise state → answer state ≡ Plan plan
         → length (numberless state plan) ≡ length plan }

@@ -1,6 +1,6 @@
 //! Partners: entries of a name that are alike in both locks in all keys drop out first.
 
-ghost use Rattle.std.specs.Prelude.{◌≡◌, ◌++◌, IfOk, IsTrue, map};
+ghost use Rattle.std.specs.Prelude.{◌≡◌, IfOk, IsTrue, map};
 ghost use Rattle.pylock_compare.specs.Partners.{where_true};
 ghost use Rattle.pylock_diff.specs.Codes.{code_row};
 ghost use Rattle.pylock_diff.specs.Inner.Lent.{lent_items};
@@ -24,39 +24,18 @@ pub(crate) fn have_same_keys(olds: &[Item<'_>], news: &[Item<'_>]) -> bool
         let Some(new) = news.get(place) else {
             return false;
         };
-        if !are_same_codes(old.codes.keys(), new.codes.keys()) {
+        if !are_same_codes(&old.codes.keys, &new.codes.keys) {
             return false;
         }
     }
     true
 }
 
+#[tactic(auto, using(crate::proofs::TextLemmas::same_codes))]
 fn are_same_codes(old: &Codes, new: &Codes) -> bool
     ensures { IsTrue result → old.now ≡ new.now }
 {
-    are_same_rows(old.rows(), new.rows())
-}
-
-fn are_same_rows(olds: &[(String, Vec<u8>)], news: &[(String, Vec<u8>)]) -> bool
-    ensures { IsTrue result → map code_row olds.now ≡ map code_row news.now }
-{
-    let mut left = news;
-    for old in olds {
-        let [new, rest @ ..] = left else {
-            return false;
-        };
-        if !is_same_row(old, new) {
-            return false;
-        }
-        left = rest;
-    }
-    matches!(left, [])
-}
-
-fn is_same_row(old: &(String, Vec<u8>), new: &(String, Vec<u8>)) -> bool
-    ensures { IsTrue result → code_row old.now ≡ code_row new.now }
-{
-    old.0.as_str() == new.0.as_str() && old.1.as_slice() == new.1.as_slice()
+    old.rows() == new.rows()
 }
 
 /// The items that have no partner among the others.
@@ -100,7 +79,7 @@ fn keys_of<'a>(alloc: Global, items: &[Item<'a>]) -> Result<Vec<Key<'a>>, AllocE
 {
     let mut keys = Vec::with_capacity(alloc, items.len())?;
     for item in items {
-        keys.push(key_of(alloc, item.codes.keys().rows())?)?;
+        keys.push(key_of(alloc, item.codes.keys.rows())?)?;
     }
     Ok(keys)
 }

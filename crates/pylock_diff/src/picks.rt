@@ -1,46 +1,40 @@
 //! The fields of picks, as keys with codes: by these two plans are told apart.
 
-ghost use Rattle.std.specs.Prelude.{◌≡◌, IfOk, OnOk, map};
+ghost use Rattle.std.specs.Prelude.{◌≡◌, [], IfOk, OnOk};
 ghost use Rattle.std.specs.Option.{option_copied};
 ghost use Rattle.toml.specs.Data.{no_members};
 ghost use Rattle.toml.specs.View.{table_view};
 ghost use Rattle.pylock_core.specs.Session.Picks.{lent_source};
 ghost use Rattle.pylock_readers.specs.Text.{text_pairs};
-ghost use Rattle.pylock_diff.specs.Inner.Picked.{lent_pick, picked_codes};
 ghost use Rattle.pylock_diff.specs.Picks.{hash_members, pick_fields, put, put_hashes};
 ghost use Rattle.pylock_diff.specs.Picks.{source_members, text_members};
 
 use crate::codes::Codes;
 use crate::compared::EntryCodes;
-use crate::item::Picked;
-use pylock_core::PickedSource;
+use pylock_core::{Entry, PickedSource};
 use std::alloc::{AllocError, Global};
 use toml::{Table, Value};
 
-/// The fields of each pick.
-pub(crate) fn pick_codes(alloc: Global, picks: &[Picked<'_>]) -> Result<Vec<EntryCodes>, AllocError>
-    ensures { IfOk result (λ list. list.items ≡ map picked_codes (map lent_pick picks.now)) }
+/// The fields of a pick of an entry: the version as it is written, and the source with all its
+/// fields under its kind.
+pub(crate) fn pick_codes(
+    alloc: Global,
+    entry: &Entry,
+    source: PickedSource<'_>,
+) -> Result<EntryCodes, AllocError>
+    ensures { IfOk result (λ codes. codes ≡ record {
+      keys = pick_fields entry.now (lent_source source.entry);
+      inner = [];
+    }) }
 {
-    let mut list = Vec::with_capacity(alloc, picks.len())?;
-    for pick in picks {
-        let codes = fields(alloc, pick)?;
-        list.push(EntryCodes::new(codes, alloc))?;
+    let mut keys = Codes::new(alloc);
+    if let Some(version) = entry.version() {
+        keys.push_text(alloc, "version", version)?;
     }
-    Ok(list)
-}
-
-/// The version as it is written, and the source with all its fields under its kind.
-fn fields(alloc: Global, pick: &Picked<'_>) -> Result<Codes, AllocError>
-    ensures { IfOk result (λ codes. codes
-        ≡ pick_fields (lent_pick pick.now).0 (lent_pick pick.now).1) }
-{
-    let mut codes = Codes::new(alloc);
-    if let Some(version) = pick.package.version() {
-        codes.push_text(alloc, "version", version)?;
-    }
-    let source = source_table(alloc, pick.source)?;
-    codes.push_value(alloc, pick.source.word(), &Value::Table(source))?;
-    Ok(codes)
+    let table = source_table(alloc, source)?;
+    keys.push_value(alloc, source.word(), &Value::Table(table))?;
+    let inner = Codes::new(alloc);
+    Ok(EntryCodes { keys, inner })
 }
 
 /// The fields of a source as a table.

@@ -1,30 +1,34 @@
 //! The sources of a name that one lock alone has.
 
-ghost use Rattle.std.specs.Prelude.{◌≡◌, ◌++◌, ◌∷◌, ◌||◌, [], IfOk, List, OnOk, None, Some, filter};
+ghost use Rattle.std.specs.Prelude.{◌≡◌, ◌++◌, ◌||◌, [], IfOk, List, OnOk, filter};
 ghost use Rattle.std.specs.Prelude.{if◌then◌else◌, is_some, map, not};
 ghost use Rattle.std.specs.BTreeMap.{get};
 ghost use Rattle.std.specs.BTreeSet.{contains};
 ghost use Rattle.std.specs.List.{flat_map, list_any};
+ghost use Rattle.std.specs.Option.{option_copied};
 ghost use Rattle.pylock_core.specs.Session.Picks.{lent_source};
-ghost use Rattle.pylock_places.specs.Shown.{source_text};
-ghost use Rattle.pylock_diff.specs.Change.{change_of};
-ghost use Rattle.pylock_diff.specs.Inner.Others.{AreOthers, HasSources, HasVersions, HasWholes};
-ghost use Rattle.pylock_diff.specs.Inner.Others.{has_at, holds_at};
+ghost use Rattle.pylock_diff.specs.Inner.Others.{AreOthers, HasKeys, HasSources, has_at, holds_at};
+ghost use Rattle.pylock_diff.specs.Inner.Others.{key_by};
 ghost use Rattle.pylock_diff.specs.Item.{ItemValue};
-ghost use Rattle.pylock_diff.specs.Sources.{condition_key, file_changes, has_counterpart, identity};
-ghost use Rattle.pylock_diff.specs.Sources.{lone_in, lone_sources, whole_key};
+ghost use Rattle.pylock_diff.specs.Sources.{condition_key, file_change, file_changes};
+ghost use Rattle.pylock_diff.specs.Sources.{has_counterpart, identity, lone_in, lone_sources};
 ghost use Rattle.pylock_compare.specs.Texts.{Texts, are_alike, texts_cmp};
-ghost use Rattle.pylock_diff.specs.Versions.{version_key};
-ghost use Rattle.pylock_diff.specs.declared.change.ChangeKind.TheVariants.{File};
 
-use crate::change::{Change, ChangeKind, ChangedName, push_change};
-use crate::conditions::bytes_of;
+use crate::change::{Change, ChangeKind, push_change};
 use crate::item::Keyed;
 use pylock_compare::Key;
 use pylock_core::PickedSource;
 use pylock_places::source_text;
+use pylock_shared::SharedText;
 use std::alloc::{AllocError, Global};
 use std::collections::{BTreeMap, BTreeSet};
+
+/// A text where it is there, as bytes.
+fn bytes_of(text: Option<&str>) -> Option<&[u8]>
+    ensures { option_copied result ≡ option_copied text.entry }
+{
+    Some(text?.as_bytes())
+}
 
 // ---- by what they are compared
 
@@ -35,8 +39,8 @@ fn condition_key<'x>(alloc: Global, item: &'x Keyed<'x>) -> Result<Key<'x>, Allo
 {
     let mut key = Key::new(alloc);
     key.push(item.key())?;
-    key.push(bytes_of(item.marker()))?;
-    key.push(bytes_of(item.pythons()))?;
+    key.push(bytes_of(item.item().marker()))?;
+    key.push(bytes_of(item.item().pythons()))?;
     Ok(key)
 }
 
@@ -49,13 +53,19 @@ fn identity<'x>(alloc: Global, source: PickedSource<'x>) -> Result<Key<'x>, Allo
     Ok(key)
 }
 
-/// The version of an entry, and what its sources are.
-fn whole_key<'x>(alloc: Global, item: &'x Keyed<'x>) -> Result<Key<'x>, AllocError>
-    ensures { IfOk result (λ key. key ≡ whole_key item.now) }
+/// The version of an entry; with sources, what they are too.
+fn whole_key<'x>(
+    alloc: Global,
+    item: &'x Keyed<'x>,
+    with_sources: bool,
+) -> Result<Key<'x>, AllocError>
+    ensures { IfOk result (λ key. key ≡ key_by with_sources item.now) }
 {
     let mut key = Key::new(alloc);
     key.push(item.key())?;
-    push_identities(&mut key, item.sources())?;
+    if with_sources {
+        push_identities(&mut key, item.sources())?;
+    }
     Ok(key)
 }
 
@@ -84,33 +94,17 @@ fn push_identity<'x>(key: &mut Key<'x>, source: PickedSource<'x>) -> Result<(), 
 
 // ---- what the other lock has
 
-/// The version of an item alone.
-fn version_only<'x>(alloc: Global, item: &'x Keyed<'_>) -> Result<Key<'x>, AllocError>
-    ensures { IfOk result (λ key. key ≡ version_key item.now ∷ []) }
-{
-    let mut key = Key::new(alloc);
-    key.push(item.key())?;
-    Ok(key)
-}
-
-/// The versions of the items.
-fn versions_of<'x>(alloc: Global, items: &'x [Keyed<'x>]) -> Result<BTreeSet<Key<'x>>, AllocError>
-    ensures { IfOk result (λ set. HasVersions set items.now) }
+/// The versions of the items; with sources, each with what they are.
+fn keys_of<'x>(
+    alloc: Global,
+    items: &'x [Keyed<'x>],
+    with_sources: bool,
+) -> Result<BTreeSet<Key<'x>>, AllocError>
+    ensures { IfOk result (λ set. HasKeys (key_by with_sources) set items.now) }
 {
     let mut set: BTreeSet<Key<'x>> = BTreeSet::new(alloc);
     for item in items {
-        set.insert(version_only(alloc, item)?)?;
-    }
-    Ok(set)
-}
-
-/// The versions of the items, each with what its sources are.
-fn wholes_of<'x>(alloc: Global, items: &'x [Keyed<'x>]) -> Result<BTreeSet<Key<'x>>, AllocError>
-    ensures { IfOk result (λ set. HasWholes set items.now) }
-{
-    let mut set: BTreeSet<Key<'x>> = BTreeSet::new(alloc);
-    for item in items {
-        set.insert(whole_key(alloc, item)?)?;
+        set.insert(whole_key(alloc, item, with_sources)?)?;
     }
     Ok(set)
 }
@@ -193,8 +187,8 @@ fn lone_sources<'x>(
 {
     let mut list = Vec::new(alloc);
     let others = Others {
-        versions: versions_of(alloc, others)?,
-        wholes: wholes_of(alloc, others)?,
+        versions: keys_of(alloc, others, false)?,
+        wholes: keys_of(alloc, others, true)?,
         sources: sources_of(alloc, others)?,
     };
     for item in items {
@@ -214,7 +208,7 @@ fn push_lone_of<'x>(
         → map lent_source list.new.items
         ≡ map lent_source list.old.items ++ lone_in known item.now) }
 {
-    if !others.versions.contains(&version_only(alloc, item)?) {
+    if !others.versions.contains(&whole_key(alloc, item, false)?) {
         return Ok(());
     }
     let key = condition_key(alloc, item)?;
@@ -236,23 +230,10 @@ fn push_unless_moved<'x>(
         → map lent_source list.new.items ≡ map lent_source list.old.items
         ++ (if has_counterpart known item.now then [] else item.now.sources)) }
 {
-    if others.wholes.contains(&whole_key(alloc, item)?) {
+    if others.wholes.contains(&whole_key(alloc, item, true)?) {
         return Ok(());
     }
-    push_sources(list, item.sources())
-}
-
-fn push_sources<'x>(
-    list: &mut Vec<PickedSource<'x>>,
-    sources: &[PickedSource<'x>],
-) -> Result<(), AllocError>
-    ensures { OnOk result (map lent_source list.new.items
-        ≡ map lent_source list.old.items ++ map lent_source sources.now) }
-{
-    for source in sources {
-        list.push(*source)?;
-    }
-    Ok(())
+    list.extend_from_slice(item.sources())
 }
 
 /// Adds those of these sources that aren't in the set.
@@ -280,7 +261,7 @@ fn push_lone<'x>(
 pub(crate) fn push_lone_sources(
     alloc: Global,
     changes: &mut Vec<Change>,
-    name: &ChangedName<'_>,
+    name: &SharedText,
     olds: &[Keyed<'_>],
     news: &[Keyed<'_>],
 ) -> Result<(), AllocError>
@@ -288,42 +269,30 @@ pub(crate) fn push_lone_sources(
         ≡ changes.old.items ++ file_changes name.now olds.now news.now) }
 {
     let gone = lone_sources(alloc, olds, news)?;
-    push_gone(alloc, changes, name, gone.as_slice())?;
+    push_files(alloc, changes, name, gone.as_slice(), true)?;
     let come = lone_sources(alloc, news, olds)?;
-    push_come(alloc, changes, name, come.as_slice())?;
+    push_files(alloc, changes, name, come.as_slice(), false)?;
     Ok(())
 }
 
-fn push_gone(
+/// Adds a line for each of these sources, which are gone, or have come.
+fn push_files(
     alloc: Global,
     changes: &mut Vec<Change>,
-    name: &ChangedName<'_>,
+    name: &SharedText,
     sources: &[PickedSource<'_>],
+    gone: bool,
 ) -> Result<(), AllocError>
     ensures { OnOk result (changes.new.items ≡ changes.old.items
-        ++ map (λ source. change_of File name.now (Some (source_text source)) None)
-        (map lent_source sources.now)) }
+        ++ map (file_change name.now gone) (map lent_source sources.now)) }
 {
     for source in sources {
-        let from = Some(source_text(alloc, *source)?);
-        push_change(changes, ChangeKind::File, name, from, None)?;
-    }
-    Ok(())
-}
-
-fn push_come(
-    alloc: Global,
-    changes: &mut Vec<Change>,
-    name: &ChangedName<'_>,
-    sources: &[PickedSource<'_>],
-) -> Result<(), AllocError>
-    ensures { OnOk result (changes.new.items ≡ changes.old.items
-        ++ map (λ source. change_of File name.now None (Some (source_text source)))
-        (map lent_source sources.now)) }
-{
-    for source in sources {
-        let to = Some(source_text(alloc, *source)?);
-        push_change(changes, ChangeKind::File, name, None, to)?;
+        let text = Some(source_text(alloc, *source)?);
+        if gone {
+            push_change(changes, ChangeKind::File, name, text, None)?;
+        } else {
+            push_change(changes, ChangeKind::File, name, None, text)?;
+        }
     }
     Ok(())
 }

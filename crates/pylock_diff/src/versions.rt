@@ -1,16 +1,14 @@
 //! The versions of a name (PEP 440).
 
-ghost use Rattle.std.specs.Prelude.{◌≡◌, ◌++◌, ◌∷◌, IfOk, OnOk, map, option_map};
-ghost use Rattle.std.specs.Prelude.{string_bytes};
-ghost use Rattle.pylock_compare.specs.Lent.{lent_texts};
-ghost use Rattle.pylock_compare.specs.Texts.{are_alike, or_dash};
+ghost use Rattle.std.specs.Prelude.{◌≡◌, ◌++◌, ◌∷◌, IfOk, OnOk, option_map, string_bytes};
 ghost use Rattle.pylock_diff.specs.Versions.{text_key, version_changes, version_keys};
 ghost use Rattle.pylock_diff.specs.Versions.{versions_text};
 
-use crate::change::{Change, ChangeKind, ChangedName, push_change};
+use crate::change::{Change, ChangeKind, push_change};
 use crate::item::Keyed;
-use crate::texts::{joined_if_any, or_dash};
+use crate::texts::shown_texts;
 use pylock_compare::Key;
+use pylock_shared::SharedText;
 use pyver_core::{Version, VersionError};
 use std::alloc::{AllocError, Global};
 
@@ -44,20 +42,11 @@ pub(crate) fn versions_text(
     ensures { IfOk result (λ text. option_map string_bytes text
         ≡ versions_text items.now) }
 {
-    let mut texts = Vec::with_capacity(alloc, items.len())?;
-    push_versions(&mut texts, items)?;
-    joined_if_any(alloc, ",", texts.as_slice())
-}
-
-/// Adds the version of each item, or `-`.
-fn push_versions<'a>(texts: &mut Vec<&'a str>, items: &[Keyed<'a>]) -> Result<(), AllocError>
-    ensures { OnOk result (lent_texts texts.new.items
-        ≡ lent_texts texts.old.items ++ map (λ item. or_dash item.version) items.now) }
-{
+    let mut versions = Vec::with_capacity(alloc, items.len())?;
     for item in items {
-        texts.push(or_dash(item.version()))?;
+        versions.push(item.item().version())?;
     }
-    Ok(())
+    shown_texts(alloc, ",", versions.as_slice())
 }
 
 /// By what the versions are compared.
@@ -71,32 +60,18 @@ fn version_keys<'a>(alloc: Global, items: &'a [Keyed<'_>]) -> Result<Key<'a>, Al
     Ok(key)
 }
 
-/// Whether the lists of versions are alike.
-fn are_same_versions<'x>(
-    alloc: Global,
-    olds: &'x [Keyed<'x>],
-    news: &'x [Keyed<'x>],
-) -> Result<bool, AllocError>
-    ensures { IfOk result (λ same. same
-        ≡ are_alike (version_keys olds.now) (version_keys news.now)) }
-{
-    let old = version_keys(alloc, olds)?;
-    let new = version_keys(alloc, news)?;
-    Ok(old == new)
-}
-
 /// Adds that the lists of versions differ, where they do.
 pub(crate) fn push_version_change(
     alloc: Global,
     changes: &mut Vec<Change>,
-    name: &ChangedName<'_>,
+    name: &SharedText,
     olds: &[Keyed<'_>],
     news: &[Keyed<'_>],
 ) -> Result<(), AllocError>
     ensures { OnOk result (changes.new.items
         ≡ changes.old.items ++ version_changes name.now olds.now news.now) }
 {
-    if are_same_versions(alloc, olds, news)? {
+    if version_keys(alloc, olds)? == version_keys(alloc, news)? {
         return Ok(());
     }
     let from = versions_text(alloc, olds)?;

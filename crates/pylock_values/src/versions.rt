@@ -1,17 +1,18 @@
 //! What a version is, as plain values (PEP 440).
 
-ghost use Rattle.std.specs.Prelude.{◌≡◌, ◌≢◌, ◌≤◌, ◌↔◌, [], IfOk, IsTrue, Ok, length, take};
+ghost use Rattle.std.specs.Prelude.{◌≡◌, ◌≢◌, ◌≤◌, ◌-◌, [], IfOk, Ok, length, take};
 ghost use Rattle.std.specs.List.{flat_map};
 ghost use Rattle.pyver_core.specs.Version.FromParts.{version_from_parts};
 ghost use Rattle.pyver_core.specs.Version.Hashing.{without_trailing_zeros};
-ghost use Rattle.pyver_core.specs.Version.Normal.{normal_text};
-ghost use Rattle.pyver_core.specs.Version.Parts.{base_release, release_alone};
+ghost use Rattle.pyver_core.specs.Version.Normal.{decimal_text, dev_text, local_text};
+ghost use Rattle.pyver_core.specs.Version.Normal.{normal_text, post_text, pre_text, segment_text};
+ghost use Rattle.pyver_core.specs.Version.Parts.{release_alone};
 ghost use Rattle.pylock_values.specs.Kind.{kind_of};
 ghost use Rattle.pylock_values.specs.Parts.{base_length, base_with, form_of, high_word, low_word};
 ghost use Rattle.pylock_values.specs.Parts.{numbers_of, pre_letter, pre_number, public_length};
 ghost use Rattle.pylock_values.specs.Parts.{short_release, without_zeros, words};
 
-use pyver_core::{PartsError, PlainVersion, PreKind, Version, VersionParts};
+use pyver_core::{LocalPart, PartsError, PlainVersion, PreKind, Version, VersionParts};
 use std::alloc::{AllocError, Global};
 
 /// What kind of release a version is, and how its text is written (PEP 440, "Pre-releases",
@@ -58,7 +59,7 @@ pub fn plain_kind(version: &PlainVersion, text: &str) -> VersionKind
 
 /// The normal form of a version; where it is to be short, of the version without the zeros at the
 /// end of its release, of which the first number stays. That one is equal to it in order. It takes
-/// memory for the text, and where it is to be short for two versions, which it gives back.
+/// memory for the text, and where it is to be short for a version, which it gives back.
 pub fn normal_form(alloc: Global, version: &Version, short: bool) -> Result<Vec<u8>, AllocError>
     ensures { IfOk result (λ text. text.items ≡ normal_text (form_of short version.now)) }
 {
@@ -74,7 +75,7 @@ pub fn normal_form(alloc: Global, version: &Version, short: bool) -> Result<Vec<
 fn short_form(alloc: Global, version: &Version) -> Result<Vec<u8>, AllocError>
     ensures { IfOk result (λ text. text.items ≡ normal_text (without_zeros version.now)) }
 {
-    let base = version.base_release(alloc)?.text().len();
+    let base = base_length(version);
     let short = base_of(alloc, version.epoch(), short_release(version.release()))?;
     let mut text = Vec::from_slice(alloc, short.text().as_bytes())?;
     text.extend_from_slice(&version.text().as_bytes()[base..])?;
@@ -186,19 +187,16 @@ impl VersionNumbers {
         }
     }
 
-    /// The numbers of a version but for those of its release. Where more stands behind the release,
-    /// it takes memory for the versions that end where the numbers tell, and gives it back.
-    pub fn of(alloc: Global, version: &Version) -> Result<VersionNumbers, AllocError>
-        ensures { IfOk result (λ numbers. numbers ≡ numbers_of version.now) }
+    /// The numbers of a version but for those of its release. It takes no memory.
+    pub fn of(version: &Version) -> VersionNumbers
+        ensures { result ≡ numbers_of version.now }
     {
-        let base = base_length(alloc, version)?;
-        let public_end = public_length(alloc, version)?;
         let pre = pre_number(version.pre());
         let post = version.post().unwrap_or(0);
         let dev = version.dev().unwrap_or(0);
-        Ok(VersionNumbers {
-            base,
-            public_end,
+        VersionNumbers {
+            base: base_length(version),
+            public_end: public_length(version),
             epoch_low: low_word(version.epoch()),
             epoch_high: high_word(version.epoch()),
             pre_low: low_word(pre),
@@ -210,38 +208,95 @@ impl VersionNumbers {
             pre: pre_letter(version.pre()),
             has_post: version.post().is_some(),
             has_dev: version.dev().is_some(),
-        })
+        }
     }
 }
 
 /// How long the epoch and the release are in the normal form.
-fn base_length(alloc: Global, version: &Version) -> Result<usize, AllocError>
-    ensures { IfOk result (λ length. length ≡ base_length version.now) }
+#[tactic(auto, using(crate::proofs::PartsLemmas::public_parts))]
+fn base_length(version: &Version) -> usize
+    ensures { result ≡ base_length version.now }
 {
-    if is_base(version) {
-        return Ok(version.text().len());
-    }
-    Ok(version.base_release(alloc)?.text().len())
-}
-
-/// Whether a version is an epoch and a release alone.
-fn is_base(version: &Version) -> bool
-    ensures { IsTrue result ↔ (base_release version.now ≡ version.now) }
-{
-    version.pre().is_none()
-        && version.post().is_none()
-        && version.dev().is_none()
-        && version.local().is_empty()
+    let end = before_dev(public_length(version), version.dev());
+    let end = before_post(end, version.post());
+    before_pre(end, version.pre())
 }
 
 /// How long all but the local part is in the normal form.
-fn public_length(alloc: Global, version: &Version) -> Result<usize, AllocError>
-    ensures { IfOk result (λ length. length ≡ public_length version.now) }
+#[tactic(auto, using(crate::proofs::PartsLemmas::local_behind))]
+fn public_length(version: &Version) -> usize
+    ensures { result ≡ public_length version.now }
 {
-    if version.local().is_empty() {
-        return Ok(version.text().len());
+    before_local(version.text().len(), version.local())
+}
+
+/// Where the pre-release begins in a normal form, by where it ends. The others tell the same of
+/// other parts.
+fn before_pre(end: usize, pre: Option<(PreKind, u128)>) -> usize
+    requires { length (pre_text pre) ≤ end }
+    ensures { result ≡ end - length (pre_text pre) }
+{
+    match pre {
+        None => end,
+        Some((PreKind::A | PreKind::B, number)) => before_number(end, number) - 1,
+        Some((PreKind::Rc, number)) => before_number(end, number) - 2,
     }
-    Ok(version.public_part(alloc)?.text().len())
+}
+
+fn before_post(end: usize, post: Option<u128>) -> usize
+    requires { length (post_text post) ≤ end }
+    ensures { result ≡ end - length (post_text post) }
+{
+    match post {
+        None => end,
+        Some(number) => before_number(end, number) - 5,
+    }
+}
+
+fn before_dev(end: usize, dev: Option<u128>) -> usize
+    requires { length (dev_text dev) ≤ end }
+    ensures { result ≡ end - length (dev_text dev) }
+{
+    match dev {
+        None => end,
+        Some(number) => before_number(end, number) - 4,
+    }
+}
+
+#[tactic(auto, using(crate::proofs::PartsLemmas::lengths_of_segments))]
+fn before_local(end: usize, local: &[LocalPart]) -> usize
+    requires { length (local_text local.now) ≤ end }
+    ensures { result ≡ end - length (local_text local.now) }
+{
+    let mut left = end;
+    for segment in local {
+        left = before_segment(left, segment) - 1;
+    }
+    left
+}
+
+fn before_segment(end: usize, segment: &LocalPart) -> usize
+    requires { length (segment_text segment.now) ≤ end }
+    ensures { result ≡ end - length (segment_text segment.now) }
+{
+    match segment {
+        LocalPart::Number(number) => before_number(end, *number),
+        LocalPart::Text(text) => end - text.as_str().len(),
+    }
+}
+
+#[tactic(auto, using(crate::proofs::PartsLemmas::lengths_of_digits))]
+fn before_number(end: usize, number: u128) -> usize
+    requires { length (decimal_text number) ≤ end }
+    ensures { result ≡ end - length (decimal_text number) }
+{
+    let mut left = end;
+    let mut value = number;
+    while value >= 10 {
+        left -= 1;
+        value /= 10;
+    }
+    left - 1
 }
 
 fn pre_letter(pre: Option<(PreKind, u128)>) -> u8

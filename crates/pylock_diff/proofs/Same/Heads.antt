@@ -14,6 +14,7 @@ use Rattle.pylock_diff.specs.Change.{ChangeValue, change_of, told_where}
 use Rattle.pylock_diff.specs.Compared.{head_of, is_head_key}
 use Rattle.pylock_diff.specs.Head.{HeadKey, first, have_same_value, head_changes, head_key, head_rows, is_list_key, key_change, keys_changes, list_keys}
 use Rattle.pylock_diff.specs.declared.change.ChangeKind.TheVariants.{Head}
+use Rattle.pylock_shown.specs.Hidden.{hidden}
 use Rattle.pylock_diff.proofs.Same.Lists.{at_other, at_same, back_none, bytes_itself, each_none, front_none, nothing, stand_nowhere, untold}
 use Rattle.pylock_diff.proofs.Same.Tables.{get_other, get_same, proper_at}
 
@@ -120,4 +121,4 @@ head_same before after same =
     none : (key : List ℕ) → key_change key (at_key key (head_of before)) (at_key key (head_of after)) ≡ []
     none key =
         ap (key_change key (at_key key (head_of before))) (sym (equal key))
-        ∙ ap (λ b. told_where (not b) (change_of Head key (option_map (λ (one : HeadKey). one.text) (at_key key (head_of before))) (option_map (λ (one : HeadKey). one.text) (at_key key (head_of before))))) (same_itself (at_key key (head_of before)))
+        ∙ ap (λ b. told_where (not b) (change_of Head (hidden key) (option_map (λ (one : HeadKey). one.text) (at_key key (head_of before))) (option_map (λ (one : HeadKey). one.text) (at_key key (head_of before))))) (same_itself (at_key key (head_of before)))

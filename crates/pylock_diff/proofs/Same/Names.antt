@@ -1,5 +1,5 @@
 -- What is told of a name: nothing, exactly where each entry has a partner.
-use Rattle.std.proofs.Common.{◌≡◌, ◌∙◌, ℕ, List, [], ◌∷◌, map, refl, sym, ap, arith}
+use Rattle.std.proofs.Common.{◌≡◌, ◌∙◌, ℕ, false, List, [], ◌∷◌, map, refl, sym, ap, arith}
 use Rattle.std.specs.List.{AllByRecursion}
 use Rattle.pylock_compare.specs.Counts.{count}
 use Rattle.pylock_compare.specs.Rows.{values_at}
@@ -9,6 +9,7 @@ use Rattle.pylock_diff.specs.Changes.{name_changes, rest_changes, row_changes, s
 use Rattle.pylock_diff.specs.Item.{ItemValue}
 use Rattle.pylock_diff.specs.Keys.{are_same_values, entry_key_changes, key_changes, placed_rows}
 use Rattle.pylock_diff.specs.Partners.{item_key, without_partners}
+use Rattle.pylock_shown.specs.Hidden.{hidden}
 use Rattle.pylock_diff.proofs.Same.Counts.{counted_itself}
 use Rattle.pylock_diff.proofs.Same.Lists.{back_none, front_none, under_none, untold}
 use Rattle.pylock_diff.proofs.Same.Places.{same_values}
@@ -22,10 +23,10 @@ rest_same name olds news none key =
     let rows = front_none (row_changes name olds news) (entry_key_changes name (row_changes name olds news) olds news) none in
     let keys : entry_key_changes name [] olds news ≡ [] =
     ap (λ told. entry_key_changes name told olds news) (sym rows) ∙ back_none (row_changes name olds news) (entry_key_changes name (row_changes name olds news) olds news) none in
-    let olds_at = values_at key (placed_rows (λ item. item.keys) 0 olds) in
-    let news_at = values_at key (placed_rows (λ item. item.keys) 0 news) in
+    let olds_at = values_at key (placed_rows false 0 olds) in
+    let news_at = values_at key (placed_rows false 0 news) in
     same_values olds_at news_at (untold (are_same_values olds_at news_at) _
-    (under_none (key_changes name []) (λ k. refl) (placed_rows (λ item. item.keys) 0 olds) (placed_rows (λ item. item.keys) 0 news) keys key))
+    (under_none (key_changes name []) (λ k. refl) (placed_rows false 0 olds) (placed_rows false 0 news) keys key))
 
 both_told : (name : List ℕ) (olds news : List ItemValue) → AllByRecursion IsOfTable olds → AllByRecursion IsOfTable news → shared_changes name olds news ≡ []
     → (k : Texts) → count k (map item_key olds) ≡ count k (map item_key news)
@@ -41,7 +42,7 @@ pub name_told : (name : List ℕ) (olds news : List ItemValue) → AllByRecursio
 name_told name [] [] all too none k = refl
 name_told name [] (new ∷ news) all too none k = absurd cc
 name_told name (old ∷ olds) [] all too none k = absurd cc
-name_told name (old ∷ olds) (new ∷ news) all too none k = both_told name (old ∷ olds) (new ∷ news) all too none k
+name_told name (old ∷ olds) (new ∷ news) all too none k = both_told (hidden name) (old ∷ olds) (new ∷ news) all too none k
 
 -- ---- where all have partners
 
@@ -62,4 +63,4 @@ name_same name (old ∷ olds) [] same = (
     let none = same (item_key old) in
     let some = counted_itself (item_key old) (map item_key olds) in
     absurd (omega arith))
-name_same name (old ∷ olds) (new ∷ news) same = both_same name (old ∷ olds) (new ∷ news) same
+name_same name (old ∷ olds) (new ∷ news) same = both_same (hidden name) (old ∷ olds) (new ∷ news) same

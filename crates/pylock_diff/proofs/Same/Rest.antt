@@ -30,7 +30,7 @@ kept P (false ∷ bs) (v ∷ vs) all = kept P bs vs all.1
 -- the same values at each key, place by place
 abbrev pub AreSame : List ItemValue → List ItemValue → Type 0
 AreSame olds news =
-    (key : List ℕ) → values_at key (placed_rows (λ item. item.keys) 0 olds) ≡ values_at key (placed_rows (λ item. item.keys) 0 news)
+    (key : List ℕ) → values_at key (placed_rows false 0 olds) ≡ values_at key (placed_rows false 0 news)
 
 same_keys : (old new : ItemValue) → IsOfTable old → IsOfTable new → ((key : List ℕ) → values_at key old.keys ≡ values_at key new.keys) → item_key old ≡ item_key new
 same_keys old new one other same =
@@ -40,9 +40,9 @@ none_left : (olds news rest others : List ItemValue) → without_partners olds n
     → AreSame rest others → rest ≡ []
 none_left olds news [] others left right all too same = refl
 none_left olds news (old ∷ rest) [] left right all too same =
-    absurd (all.0.named (first_none (λ item. item.keys) old rest (codes "name") (same (codes "name"))))
+    absurd (all.0.named (first_none false old rest (codes "name") (same (codes "name"))))
 none_left olds news (old ∷ rest) (new ∷ others) left right all too same =
-    let key : item_key old ≡ item_key new = same_keys old new all.0 too.0 (λ key. first_same (λ item. item.keys) old new rest others key (same key)) in
+    let key : item_key old ≡ item_key new = same_keys old new all.0 too.0 (λ key. first_same false old new rest others key (same key)) in
     let fewer = first_alone item_key olds (map item_key news) old rest left in
     let less = first_alone item_key news (map item_key olds) new others right in
     let more : count (item_key old) (map item_key olds) < count (item_key old) (map item_key news) = subst (λ k. count k (map item_key olds) < count k (map item_key news)) (sym key) less in

@@ -1,5 +1,5 @@
 -- Sets by which sources are looked for.
-use Rattle.std.specs.Prelude.{◌≡◌, ◌&&◌, ◌∷◌, Bool, false, is_some, List, []}
+use Rattle.std.specs.Prelude.{◌≡◌, ◌&&◌, ◌∷◌, Bool, false, true, if◌then◌else◌, is_some, List, []}
 use Rattle.std.specs.BTreeMap.{BTreeMap, get}
 use Rattle.std.specs.BTreeSet.{BTreeSet, contains}
 use Rattle.std.specs.List.{list_any}
@@ -10,17 +10,15 @@ use Rattle.pylock_diff.specs.Sources.{condition_key, identity, whole_key}
 use Rattle.pylock_diff.specs.Versions.{version_key}
 use Rattle.pylock_diff.specs.declared.sources.Others.{Others}
 
--- the set has the versions of these items
-abbrev pub HasVersions : BTreeSet Texts → List ItemValue → Type 0
-HasVersions set items =
-    (key : Texts) → contains texts_cmp set key
-    ≡ list_any (λ item. are_alike key (version_key item ∷ [])) items
+-- the version of an item; with sources, what they are too
+abbrev pub key_by : (with_sources : Bool) → ItemValue → Texts
+key_by with_sources item =
+    if with_sources then whole_key item else version_key item ∷ []
 
--- the set has the versions of these items, each with what its sources are
-abbrev pub HasWholes : BTreeSet Texts → List ItemValue → Type 0
-HasWholes set items =
-    (key : Texts) → contains texts_cmp set key
-    ≡ list_any (λ item. are_alike key (whole_key item)) items
+-- the set has these keys of the items
+abbrev pub HasKeys : (ItemValue → Texts) → BTreeSet Texts → List ItemValue → Type 0
+HasKeys key_of set items =
+    (key : Texts) → contains texts_cmp set key ≡ list_any (λ item. are_alike key (key_of item)) items
 
 -- what stands under a version, a marker and a set of Pythons
 abbrev pub holds_at : BTreeMap Texts (BTreeSet Texts) → Texts → Texts → Bool
@@ -43,6 +41,6 @@ pub record HasSources (table : BTreeMap Texts (BTreeSet Texts)) (items : List It
 
 -- what the other lock has of a name
 pub record AreOthers (others : Others) (items : List ItemValue) : Type 0 where
-  pub versions : HasVersions others.versions items
-  pub wholes : HasWholes others.wholes items
+  pub versions : HasKeys (key_by false) others.versions items
+  pub wholes : HasKeys (key_by true) others.wholes items
   pub sources : HasSources others.sources items

@@ -7,4 +7,4 @@ use Rattle.pylock_diff.proofs.files.push_files.Given as goal
 
 abbrev pub invariant-loop-source : goal.invariant-loop-source
 invariant-loop-source l =
-    map file_row l.rows.items ≡ map file_row l.initial.rows.items ++ flat_map file_in (map lent_source (take l.source-index l.sources))
+    map file_row l.rows.items ≡ map file_row l.initial.rows.items ++ flat_map (file_in l.archives) (map lent_source (take l.source-index l.sources))

@@ -3,7 +3,7 @@ use Rattle.std.proofs.lemmas.Grind.{common_steps}
 use Rattle.toml.specs.View.{members_view, table_view, view}
 use Rattle.pytoml_code.specs.Code.{code}
 use Rattle.pylock_diff.specs.Codes.{member_rows}
-use Rattle.pylock_diff.specs.Inner.Told.{source_told, told_by}
+use Rattle.pylock_diff.specs.SourceKeys.{source_told, told_by}
 use Rattle.pylock_diff.proofs.InnerLemmas.{one_kept, one_told, stands}
 use Rattle.pylock_diff.proofs.inner.push_others.Goals as goal
 

@@ -1,7 +1,7 @@
 use Rattle.std.proofs.Common.{◌≡◌, ◌++◌, filter, not}
 use Rattle.toml.specs.View.{members_view, table_view}
 use Rattle.pylock_diff.specs.Codes.{member_rows}
-use Rattle.pylock_diff.specs.Inner.Told.{source_told}
+use Rattle.pylock_diff.specs.SourceKeys.{source_told}
 use Rattle.pylock_diff.proofs.inner.push_others.Given as goal
 
 -- the rows so far, and those of what is to come

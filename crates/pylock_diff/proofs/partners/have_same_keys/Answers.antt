@@ -8,8 +8,7 @@ loop-place-preserved c =
     let room : c.loop-place.place < length c.args.news.now = omega arith in
     same_more c.args.olds.now c.args.news.now c.loop-place.place c.index-olds-place.result c.in-Some.new.now c.loop-place-test.true c.index-olds-place.is
     room c.in-Some.ensures.lookup.1
-    (sym c.keys.ensures ∙ c.are_same_codes.ensures c.if-not-are_same_codes.false ∙ c.keys-in-loop-place.ensures)
-    c.loop-place.invariant
+    (c.are_same_codes.ensures c.if-not-are_same_codes.false) c.loop-place.invariant
 
 pub returns : goal.returns
 returns c = λ _.

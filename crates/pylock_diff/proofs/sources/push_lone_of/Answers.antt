@@ -14,7 +14,7 @@ returns-in-Some c =
     let item = c.args.item.now in
     let set = c.in-Some.set.now in
     let versioned : contains texts_cmp others.versions (version_key item ∷ []) ≡ true =
-    ap (contains texts_cmp others.versions) (sym c.in_ok-version_only.ensures) ∙ sym c.contains.ensures ∙ c.if-not-contains.false in
+    ap (contains texts_cmp others.versions) (sym c.in_ok-whole_key.ensures) ∙ sym c.contains.ensures ∙ c.if-not-contains.false in
     let found : get texts_cmp others.sources (condition_key item) ≡ Some set = ap (get texts_cmp others.sources) (sym c.in_ok-key.ensures) ∙ sym c.in-Some.ensures.value in
     on_ok c.push_lone.result
     (λ put known are. put
@@ -27,7 +27,7 @@ returns c =
     let others = c.args.others.now in
     let item = c.args.item.now in
     let versioned : contains texts_cmp others.versions (version_key item ∷ []) ≡ true =
-    ap (contains texts_cmp others.versions) (sym c.in_ok-version_only.ensures) ∙ sym c.contains.ensures ∙ c.if-not-contains.false in
+    ap (contains texts_cmp others.versions) (sym c.in_ok-whole_key.ensures) ∙ sym c.contains.ensures ∙ c.if-not-contains.false in
     let none : get texts_cmp others.sources (condition_key item) ≡ None = ap (get texts_cmp others.sources) (sym c.in_ok-key.ensures) ∙ sym c.in-None.ensures.value in
     on_ok c.push_unless_moved.result
     (λ put known are. put known are ∙ ap (λ more. map lent_source c.args.list.now.items ++ more) (sym (without_set others known are item versioned none)))

@@ -1,8 +1,0 @@
-use Rattle.std.proofs.Common.{◌≡◌, take}
-use Rattle.pylock_diff.specs.Files.{urls_of}
-use Rattle.pylock_compare.specs.Lent.{lent_texts}
-use Rattle.pylock_diff.specs.Inner.Lent.{lent_sources}
-use Rattle.pylock_diff.proofs.file_changes.urls_of.Given as goal
-
-abbrev pub invariant-loop-file : goal.invariant-loop-file
-invariant-loop-file l = lent_texts l.list.items ≡ urls_of (lent_sources (take l.file-index l.files))

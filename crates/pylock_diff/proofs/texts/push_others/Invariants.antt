@@ -1,9 +1,0 @@
-use Rattle.std.proofs.Common.{◌≡◌, ◌++◌, string_bytes, take}
-use Rattle.std.specs.List.{flat_map}
-use Rattle.pylock_compare.specs.Lent.{lent_texts}
-use Rattle.pylock_diff.proofs.texts.push_others.Given as goal
-
-abbrev pub invariant-loop-other : goal.invariant-loop-other
-invariant-loop-other l =
-    string_bytes l.text ≡ string_bytes l.initial.text
-    ++ flat_map (λ other. l.separator ++ other) (lent_texts (take l.other-index l.others))
