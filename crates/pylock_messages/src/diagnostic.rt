@@ -79,15 +79,6 @@ impl Diagnostic {
         Ok(diagnostic)
     }
 
-    /// The same place, where the line says these words of the file. It takes memory for the line.
-    fn saying(self, alloc: Global, words: &str) -> Result<Diagnostic, AllocError> {
-        let mut diagnostic = self;
-        let file = diagnostic.file.as_deref().unwrap_or("");
-        let line = format!(in alloc; "{file}: {words}")?;
-        diagnostic.message = visible_text(alloc, line.as_str())?;
-        Ok(diagnostic)
-    }
-
     /// The same place, where the line has these words behind it. It takes memory for the line.
     pub fn followed_by(self, alloc: Global, words: &str) -> Result<Diagnostic, AllocError> {
         let mut diagnostic = self;
@@ -171,7 +162,12 @@ pub(crate) fn saying(
     words: Option<&str>,
 ) -> Result<Option<Diagnostic>, AllocError> {
     match (told, words) {
-        (Some(diagnostic), Some(words)) => Ok(Some(diagnostic.saying(alloc, words)?)),
+        (Some(mut diagnostic), Some(words)) => {
+            let file = diagnostic.file.as_deref().unwrap_or("");
+            let line = format!(in alloc; "{file}: {words}")?;
+            diagnostic.message = visible_text(alloc, line.as_str())?;
+            Ok(Some(diagnostic))
+        }
         (told, _) => Ok(told),
     }
 }

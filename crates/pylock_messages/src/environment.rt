@@ -5,7 +5,6 @@ use crate::other_file::other_than_json;
 use crate::platform::{PLATFORMS, meant_platform};
 use crate::shown_value::ShownValue;
 use crate::syntax::{not_text, wrong_json};
-use crate::value_form::ValueForm;
 use crate::wrong_part::{Part, PartFault, WrongPart, wrong_part};
 use pylock_readers::{EnvError, read_environment, read_target};
 use pylock_shown::Shown;
@@ -88,16 +87,14 @@ pub fn target_diagnostic(
     refusal: &EnvError,
 ) -> Result<Option<Diagnostic>, AllocError> {
     let line = match refusal {
-        EnvError::Python => python_line(alloc, Shown(python))?,
+        EnvError::Python => {
+            let shown = Shown(python);
+            format!(in alloc; "--python: `{shown}`: {PYTHONS}")?
+        }
         EnvError::Platform => platform_line(alloc, platform)?,
         _ => return Ok(None),
     };
     Ok(Some(Diagnostic::of_message(alloc, line.as_str())?))
-}
-
-/// What is told of a word that is no Python.
-fn python_line(alloc: Global, python: Shown<'_>) -> Result<String, AllocError> {
-    format!(in alloc; "--python: `{python}`: {PYTHONS}")
 }
 
 /// What is told of a word that is no platform.
@@ -120,20 +117,20 @@ fn wrong_value<'a>(value: &'a Value, refusal: &EnvError) -> Option<WrongPart<'a>
             let fault = PartFault::IsNoTag(ShownValue::json(Some(tag)));
             Some(WrongPart::new(Part::Tag(*position), fault))
         }
-        _ if !value.is_object() => Some(is_not(Part::Whole, ValueForm::Object, Some(value))),
+        _ if !value.is_object() => Some(is_not(Part::Whole, "an object", Some(value))),
         _ => wrong_variables(value.get("environment")).or(wrong_tags(value.get("tags"))),
     }
 }
 
 fn wrong_variables(member: Option<&Value>) -> Option<WrongPart<'_>> {
     let Some(Value::Object(members)) = member else {
-        return Some(is_not(Part::Key("environment"), ValueForm::Object, member));
+        return Some(is_not(Part::Key("environment"), "an object", member));
     };
     for variable in Var::all() {
         let key = variable.name();
         match members.get(key) {
             None | Some(Value::String(_)) => {}
-            text => return Some(is_not(Part::Inner("environment", key), ValueForm::Text, text)),
+            text => return Some(is_not(Part::Inner("environment", key), "a text", text)),
         }
     }
     None
@@ -141,16 +138,12 @@ fn wrong_variables(member: Option<&Value>) -> Option<WrongPart<'_>> {
 
 fn wrong_tags(member: Option<&Value>) -> Option<WrongPart<'_>> {
     let Some(Value::Array(tags)) = member else {
-        return Some(is_not(Part::Key("tags"), ValueForm::Texts, member));
+        return Some(is_not(Part::Key("tags"), "a list of texts", member));
     };
-    for (at, tag) in tags.iter().enumerate() {
-        if !tag.is_string() {
-            return Some(is_not(Part::Member("tags", at + 1), ValueForm::Text, Some(tag)));
-        }
-    }
-    None
+    let at = tags.iter().position(|tag| !tag.is_string())?;
+    Some(is_not(Part::Member("tags", at + 1), "a text", tags.get(at)))
 }
 
-fn is_not<'a>(part: Part, form: ValueForm, member: Option<&'a Value>) -> WrongPart<'a> {
+fn is_not<'a>(part: Part, form: &'static str, member: Option<&'a Value>) -> WrongPart<'a> {
     WrongPart::new(part, PartFault::IsNot(form, ShownValue::json(member)))
 }

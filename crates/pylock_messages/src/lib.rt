@@ -19,9 +19,7 @@ mod one_line_json;
 mod other_file;
 mod platform;
 mod shown_value;
-mod sources;
 mod syntax;
-mod value_form;
 mod wrong_part;
 
 pub use diagnostic::Diagnostic;

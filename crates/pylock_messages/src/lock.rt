@@ -4,7 +4,6 @@ use crate::diagnostic::{Diagnostic, saying};
 use crate::entry::wrong_entry;
 use crate::other_file::{other_than_lock, other_than_toml};
 use crate::syntax::{not_text, wrong_toml};
-use crate::value_form::ValueForm;
 use crate::wrong_part::{Part, WrongPart, wrong_part};
 use pylock_readers::{HeadKey, Lock, LockError};
 use pymark_core::{Marker, MarkerError};
@@ -74,15 +73,15 @@ fn document_diagnostic(
 /// The key that the lock is refused for, or the first wrong member of its list.
 fn wrong_key<'a>(document: &'a Table, refusal: &LockError) -> Option<WrongPart<'a>> {
     let (key, form) = match refusal {
-        LockError::LockVersion => ("lock-version", ValueForm::LockVersion),
-        LockError::CreatedBy => ("created-by", ValueForm::Text),
-        LockError::Head(HeadKey::RequiresPython) => ("requires-python", ValueForm::SpecifierSet),
+        LockError::LockVersion => ("lock-version", "1. and digits"),
+        LockError::CreatedBy => ("created-by", "a text"),
+        LockError::Head(HeadKey::RequiresPython) => ("requires-python", "a specifier set"),
         LockError::Head(HeadKey::Extras) => return wrong_names(document, "extras"),
         LockError::Head(HeadKey::DependencyGroups) => {
             return wrong_names(document, "dependency-groups");
         }
         LockError::Head(HeadKey::DefaultGroups) => return wrong_names(document, "default-groups"),
-        LockError::Packages => ("packages", ValueForm::List),
+        LockError::Packages => ("packages", "a list"),
         LockError::Entry(position, refusal) => return wrong_entry(document, *position, refusal),
         _ => return None,
     };
@@ -91,32 +90,22 @@ fn wrong_key<'a>(document: &'a Table, refusal: &LockError) -> Option<WrongPart<'
 
 fn wrong_names<'a>(document: &'a Table, key: &'static str) -> Option<WrongPart<'a>> {
     let Some(Value::Array(names)) = document.get(key) else {
-        return Some(WrongPart::key(document, key, ValueForm::Names));
+        return Some(WrongPart::key(document, key, "a list of names"));
     };
-    for (at, name) in names.iter().enumerate() {
-        if !is_name_text(name) {
-            let part = Part::Member(key, at + 1);
-            return Some(WrongPart::in_lock(part, ValueForm::Name, Some(name)));
-        }
-    }
-    None
-}
-
-fn is_name_text(value: &Value) -> bool {
-    match value {
-        Value::String(text) => is_name(text.as_str()),
-        _ => false,
-    }
+    let at = names
+        .iter()
+        .position(|name| !name.as_str().is_some_and(|text| is_name(text)))?;
+    Some(WrongPart::in_lock(Part::Member(key, at + 1), "a name", names.get(at)))
 }
 
 fn wrong_environments(alloc: Global, lock: &Table) -> Result<Option<WrongPart<'_>>, AllocError> {
     let Some(Value::Array(markers)) = lock.get("environments") else {
-        return Ok(Some(WrongPart::key(lock, "environments", ValueForm::Markers)));
+        return Ok(Some(WrongPart::key(lock, "environments", "a list of markers")));
     };
     for (at, marker) in markers.iter().enumerate() {
         if !is_marker(alloc, marker)? {
             let part = Part::Member("environments", at + 1);
-            return Ok(Some(WrongPart::in_lock(part, ValueForm::Marker, Some(marker))));
+            return Ok(Some(WrongPart::in_lock(part, "a marker", Some(marker))));
         }
     }
     Ok(None)

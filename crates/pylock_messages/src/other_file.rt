@@ -18,11 +18,7 @@ pub fn begins_like_json(text: &[u8]) -> bool {
 
 /// What is said of a lock that is no TOML, where it seems to be JSON.
 pub(crate) fn other_than_toml(text: &str) -> Option<&'static str> {
-    if begins_like_json(text.as_bytes()) {
-        Some("this is JSON, and a lock is TOML")
-    } else {
-        None
-    }
+    begins_like_json(text.as_bytes()).then_some("this is JSON, and a lock is TOML")
 }
 
 /// What is said of a lock that is another file of TOML, or none.
@@ -41,13 +37,9 @@ pub(crate) fn other_than_lock(text: &str, document: &Table) -> Option<&'static s
 }
 
 fn is_project(document: &Table) -> bool {
-    is_table(document.get("project"))
-        || is_table(document.get("build-system"))
-        || is_table(document.get("tool"))
-}
-
-fn is_table(value: Option<&Value>) -> bool {
-    matches!(value, Some(Value::Table(_)))
+    ["project", "build-system", "tool"]
+        .iter()
+        .any(|key| document.get(*key).is_some_and(Value::is_table))
 }
 
 /// Whether it has what every lock of uv has; one of Cargo has no `requires-python`.

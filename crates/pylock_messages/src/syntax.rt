@@ -29,8 +29,13 @@ pub(crate) fn wrong_toml(
     };
     let bytes = text.as_bytes();
     let before = without_mark(&bytes[..span.start.min(bytes.len())]);
-    let line = ends_of_lines(before).saturating_add(1);
-    let column = characters(last_line(before)).saturating_add(1);
+    let ends_of_lines = before.iter().filter(|byte| **byte == b'\n').count();
+    let last_line = before
+        .rsplit(|byte| *byte == b'\n')
+        .next()
+        .unwrap_or(before);
+    let line = ends_of_lines.saturating_add(1);
+    let column = characters(last_line).saturating_add(1);
     wrong_place(alloc, name, line, column, fault.message())
 }
 
@@ -86,15 +91,6 @@ fn json_words(alloc: Global, fault: serde_json::Error) -> Result<String, AllocEr
 
 fn without_mark(bytes: &[u8]) -> &[u8] {
     bytes.strip_prefix(BYTE_ORDER_MARK).unwrap_or(bytes)
-}
-
-fn ends_of_lines(bytes: &[u8]) -> usize {
-    bytes.iter().filter(|byte| **byte == b'\n').count()
-}
-
-/// What stands after the last LF.
-fn last_line(bytes: &[u8]) -> &[u8] {
-    bytes.rsplit(|byte| *byte == b'\n').next().unwrap_or(bytes)
 }
 
 /// What stands from the line of this number on, which counts from 1.

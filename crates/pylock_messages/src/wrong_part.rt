@@ -2,7 +2,6 @@
 
 use crate::diagnostic::Diagnostic;
 use crate::shown_value::ShownValue;
-use crate::value_form::ValueForm;
 use pylock_shown::{Shown, hidden};
 use std::alloc::{AllocError, Global};
 use std::fmt;
@@ -45,7 +44,7 @@ pub(crate) enum Part {
 #[derive(Clone, Copy)]
 pub(crate) enum PartFault<'a> {
     /// This stands there, which is not of the form.
-    IsNot(ValueForm, ShownValue<'a>),
+    IsNot(&'static str, ShownValue<'a>),
     /// This text is no tag.
     IsNoTag(ShownValue<'a>),
     /// A source has neither a URL nor a path.
@@ -59,12 +58,16 @@ impl<'a> WrongPart<'a> {
     }
 
     /// What stands in this part of a lock is not of the form.
-    pub(crate) fn in_lock(part: Part, form: ValueForm, field: Option<&'a Value>) -> WrongPart<'a> {
+    pub(crate) fn in_lock(
+        part: Part,
+        form: &'static str,
+        field: Option<&'a Value>,
+    ) -> WrongPart<'a> {
         WrongPart::new(part, PartFault::IsNot(form, ShownValue::toml(field)))
     }
 
     /// The value of the key of the table is not of the form.
-    pub(crate) fn key(table: &'a Table, key: &'static str, form: ValueForm) -> WrongPart<'a> {
+    pub(crate) fn key(table: &'a Table, key: &'static str, form: &'static str) -> WrongPart<'a> {
         WrongPart::in_lock(Part::Key(key), form, table.get(key))
     }
 
@@ -100,36 +103,21 @@ pub(crate) fn wrong_part(
     name: &str,
     wrong: Option<WrongPart<'_>>,
 ) -> Result<Option<Diagnostic>, AllocError> {
-    match wrong {
-        Some(wrong) => Ok(Some(part_diagnostic(alloc, name, wrong)?)),
-        None => Ok(None),
-    }
-}
-
-fn part_diagnostic(
-    alloc: Global,
-    name: &str,
-    wrong: WrongPart<'_>,
-) -> Result<Diagnostic, AllocError> {
+    let Some(wrong) = wrong else {
+        return Ok(None);
+    };
     let message = format!(in alloc; "{name}: {wrong}")?;
     let mut diagnostic = Diagnostic::of_file(alloc, name, message.as_str())?;
     diagnostic.key = key_path(alloc, wrong.part)?;
     match (wrong.entry, wrong.part) {
         (Some(entry), _) => {
             diagnostic.entry = Some(entry.position as u64);
-            diagnostic.name = shown_name(alloc, entry.name)?;
+            diagnostic.name = entry.name.map(|name| hidden(alloc, name)).transpose()?;
         }
         (None, Part::Entry(position)) => diagnostic.entry = Some(position as u64),
         _ => {}
     }
-    Ok(diagnostic)
-}
-
-fn shown_name(alloc: Global, name: Option<&str>) -> Result<Option<String>, AllocError> {
-    match name {
-        Some(name) => Ok(Some(hidden(alloc, name)?)),
-        None => Ok(None),
-    }
+    Ok(Some(diagnostic))
 }
 
 /// The path of the key that a part is at: keys and positions, joined by a space.
