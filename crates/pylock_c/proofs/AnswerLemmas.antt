@@ -1,7 +1,7 @@
 -- What a call leaves in a buffer, and what it answers of a slot.
 use Rattle.std.proofs.Common.{◌≡◌, ◌≤◌, ◌++◌, ℕ, ℤ, pos, false, List, drop, length, refl, sym, subst, if◌then◌else◌, arith}
 use Rattle.std.proofs.lemmas.Bool.Decides.{nat_tests}
-use Rattle.std.specs.Prelude.{Option, None, Result, Ok, Err}
+use Rattle.std.specs.Prelude.{Option, None, Some, IfSome, SomeIff, Result, Ok, Err}
 use Rattle.pylock_c.specs.Answer.{Tells, Writes, WritesWith, is_short, written as buffer_after}
 use Rattle.pylock_c.specs.Refusal.{number}
 use Rattle.pylock_c.specs.declared.object.Object.{Object}
@@ -25,6 +25,12 @@ pub writes_itself : {definition : Result (List ℕ) Refusal} {items old new : Li
 writes_itself {items = items} {old = old} gives counted fits put =
     let roomy : is_short old items ≡ false = grind (arith, nat_tests) in
     (Ok items, gives, rw roomy refl, rw (roomy, ← counted) put, counted)
+
+pub writes_some : (A : Type 0) (definition : Result (List ℕ) Refusal) (items old new : List ℕ) (result : Option ℕ) → definition ≡ Ok items
+    → SomeIff result A (length items) → IfSome result (λ count. count ≤ length old) → IfSome result (λ count. new ≡ items ++ drop count old)
+    → IfSome result (λ count. (needed : ℕ) → Writes definition old new needed count (pos 0))
+writes_some A definition items old new None gives counted fits put = tt
+writes_some A definition items old new (Some count) gives counted fits put = λ needed. writes_itself gives counted.1 fits put
 
 -- where the buffer was as before when another call wrote them
 pub writes_later : {definition : Result (List ℕ) Refusal} {old before new : List ℕ} {needed needed' : ℕ} {code : ℤ}

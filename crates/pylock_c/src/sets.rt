@@ -72,7 +72,6 @@ fn name(alloc: Global, bytes: &[u8]) -> Result<Vec<u8>, Refusal>
 
 /// Writes the normal form of a name at the front of the buffer, where that has room for the text,
 /// and answers how long it is. It takes no memory.
-#[tactic(auto, using(crate::proofs::AnswerLemmas::writes_itself))]
 fn write_name(bytes: &[u8], out: &mut [u8]) -> Option<usize>
     ensures written { IfSome result (λ count. (needed : ℕ)
         → Writes (name_of bytes.now) out.old out.new needed count (pos 0)) }

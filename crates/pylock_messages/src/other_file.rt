@@ -3,12 +3,14 @@
 use std::alloc::{AllocError, Global};
 use toml::{Table, Value};
 
+/// The text behind its byte order mark, where it has one.
+fn behind_mark(text: &str) -> &str {
+    text.strip_prefix('\u{feff}').unwrap_or(text)
+}
+
 /// Whether the text has nothing but white space, behind a byte order mark or not.
 pub(crate) fn is_blank(text: &str) -> bool {
-    text.strip_prefix('\u{feff}')
-        .unwrap_or(text)
-        .trim()
-        .is_empty()
+    behind_mark(text).trim().is_empty()
 }
 
 /// Whether bytes begin as an object of JSON does, which no lock does.
@@ -18,7 +20,7 @@ pub fn begins_like_json(text: &[u8]) -> bool {
 
 /// What is said of a lock that is no TOML, where it seems to be JSON.
 pub(crate) fn other_than_toml(text: &str) -> Option<&'static str> {
-    begins_like_json(text.as_bytes()).then_some("this is JSON, and a lock is TOML")
+    begins_like_json(behind_mark(text).as_bytes()).then_some("this is JSON, and a lock is TOML")
 }
 
 /// What is said of a lock that is another file of TOML, or none.
