@@ -209,7 +209,7 @@ class Reading(unittest.TestCase):
         """Headers and body are what `email` reads."""
         draw, plain_ones = seeded("metadata headers"), 0
         pieces = ["A", "Name", "b-c", ":", ": ", ": x", ":\ty ", "\n", "\n", "\n ", "\n\t", "\n\n", "\r\n", "\r", "\x0c", "\x85", "\xe9", "\x7f", "From ", " "]
-        for count in range(6000):
+        for count in range(2000):
             draw_of = pieces if count % 2 else pieces[:12]
             text = "".join(draw.choice(draw_of) for _ in range(draw.randrange(12)))
             text = draw.choice(["", "A: b\n", "A: b\nC: d"]) + text
@@ -219,7 +219,7 @@ class Reading(unittest.TestCase):
                 headers, body = ours._read(text)
                 plain_ones += not parser.parsestr.called
             self.assertEqual((list(headers), body), (list(message.raw_items()), message.get_payload()), text)
-        self.assertTrue(1000 < plain_ones < 5000, plain_ones)
+        self.assertTrue(300 < plain_ones < 1700, plain_ones)
 
     def test_whole(self):
         metadata = Metadata.from_email(WHOLE)
