@@ -711,6 +711,21 @@ static PyObject *version_of_made(State *state, const Made *made, bool has_local)
     return version;
 }
 
+/* The version of parts of which the local one is that of a version, and the others are as in a normal form: it has these. */
+static PyObject *version_with_local(State *state, PyObject *const *given, const Made *made)
+{
+    PyObject *text = PyUnicode_DecodeLatin1(made->text, (Py_ssize_t)made->length, NULL);
+    Version *version = text == NULL ? NULL : empty_version(state, state->version_class);
+    if (version != NULL) {
+        Parts parts = {hold(given[EPOCH]), hold(given[RELEASE]), hold(given[PRE]), hold(given[POST]), hold(given[DEV]), hold(given[LOCAL]), 0};
+        version->text = hold(text);
+        version->is_normal = true;
+        set_parts(version, &parts, given[PRE] != Py_None || given[DEV] != Py_None);
+    }
+    Py_XDECREF(text);
+    return (PyObject *)version;
+}
+
 /* Puts the parts that are given by their names in their places: false where one has another name. */
 static bool take_parts(PyObject *const *values, PyObject *names, PyObject **parts)
 {
@@ -793,7 +808,8 @@ static PyObject *version_replace(PyObject *self, PyObject *const *arguments, Py_
     if (is_plain && take_parts(arguments, names, parts) && made_of_parts(parts, &made)) {
         int is_same = has_such_parts(version, parts) ? is_its_text(self, &made) : 0;
         if (is_same != 0) return is_same < 0 ? NULL : hold(self);
-        PyObject *other = version_of_made(state, &made, parts[LOCAL] != Py_None);
+        bool has_local = parts[LOCAL] != Py_None, is_own = has_local && parts[LOCAL] == version->local;
+        PyObject *other = is_own ? version_with_local(state, parts, &made) : version_of_made(state, &made, has_local);
         if (other != NULL || PyErr_Occurred()) return other;
     }
     return PyErr_Occurred() ? NULL : asked_of_layer("replaced", self, arguments, count, names);
