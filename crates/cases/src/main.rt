@@ -1,7 +1,7 @@
 //! Cases of locks, of entries, of environments, of the messages on them, of sessions, of runs, of
-//! commands, of command lines, of JSON documents, and of sources and sinks, some of which fail: what
-//! each reader, session and command gives for the texts in `data/`. Or, with the word `steps`, a
-//! session that prints nothing, whose allocations and time are measured from outside.
+//! commands, of command lines, of JSON documents, and of sources and sinks, some of which fail:
+//! what each reader, session and command gives for the texts in `data/`. Or, with the word `steps`,
+//! a session that prints nothing, whose allocations and time are measured from outside.
 #![tactic(auto)]
 
 mod entries;
