@@ -52,6 +52,13 @@ locks_report form told old new =
     report_or_refusal (Some form) told (λ both. changes_report form (lock_changes both.0 both.1))
     (both_of (compared_of old) (compared_of new))
 
+-- both states after the options, or the first option that is refused
+abbrev pub both_chosen : List Choice → State × State → Result (State × State) Cause
+both_chosen choices both = do
+  old ← chosen_state choices both.0
+  new ← chosen_state choices both.1
+  Ok (old, new)
+
 -- the states of both locks after the options, in an environment as it was read: both locks are
 -- judged before the environment, and that before an option
 abbrev pub plans_state : List Choice → List ℕ → List ℕ → EnvironmentRead
@@ -59,9 +66,8 @@ abbrev pub plans_state : List Choice → List ℕ → List ℕ → EnvironmentRe
 plans_state choices old new read = do
   locks ← both_of (lock_of old) (lock_of new)
   environment ← environment_of read
-  old ← chosen_state choices (first locks.0 environment.0 environment.1)
-  new ← chosen_state choices (first locks.1 environment.0 environment.1)
-  Ok (old, new)
+  both_chosen choices
+      (first locks.0 environment.0 environment.1, first locks.1 environment.0 environment.1)
 
 abbrev pub plans_report : Form → Option DiagnosticValue → List Choice → List ℕ → List ℕ
     → EnvironmentRead → Report

@@ -163,11 +163,14 @@ abbrev pub names_text : List (List ℕ) → Option (List ℕ)
 names_text [] = None
 names_text (name ∷ names) = Some (join_by normal_name (codes ",") (name ∷ names))
 
-abbrev pub requirement_shown : Form → RequirementValue → List ℕ
-requirement_shown Lines parts =
+abbrev pub requirement_line : RequirementValue → List ℕ
+requirement_line parts =
     line_of (field (Some (normal_name parts.name)))
     (field (names_text parts.extras) ∷ field (specifiers_text parts.set) ∷ field parts.url
     ∷ field (option_map (λ marker. marker.text) parts.marker) ∷ [])
+
+abbrev pub requirement_shown : Form → RequirementValue → List ℕ
+requirement_shown Lines parts = requirement_line parts
 requirement_shown Json parts = json_text (requirement_rows parts)
 
 abbrev pub requirement_answer : Form → List ℕ → Result (List ℕ) Report

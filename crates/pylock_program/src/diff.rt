@@ -6,7 +6,7 @@ ghost use Rattle.pylock_core.specs.Session.State.{first};
 ghost use Rattle.pylock_core.specs.Session.Steps.{answer};
 ghost use Rattle.pylock_diff.specs.Changes.{answer_changes, lock_changes};
 ghost use Rattle.pylock_diff.specs.Compared.{compared_of};
-ghost use Rattle.pylock_program.specs.Diff.{both_of, changes_report};
+ghost use Rattle.pylock_program.specs.Diff.{both_chosen, both_of, changes_report};
 ghost use Rattle.pylock_program.specs.Diff.{locks_report, plans_report, plans_state};
 ghost use Rattle.pylock_program.specs.Inner.Machine.{machine_read};
 ghost use Rattle.pylock_program.specs.Program.{Compares, Opens, OpensMachine, RepliesTelling};
@@ -198,9 +198,25 @@ fn open_both<'a>(alloc: Global, plans: Plans<'a>) -> Result<(Session, Session), 
     let old = lock_on(alloc, Side::Old, plans.sides.old)?;
     let new = lock_on(alloc, Side::New, plans.sides.new)?;
     let (environment, tags) = read_environment(alloc, plans.machine)?;
-    let (mut old, mut new) = start_both(alloc, (old, new), environment, tags)?;
-    choose(alloc, &mut old, plans.choices, plans.sides.old.path)?;
-    choose(alloc, &mut new, plans.choices, plans.sides.new.path)?;
+    let sessions = start_both(alloc, (old, new), environment, tags)?;
+    let paths = (plans.sides.old.path, plans.sides.new.path);
+    choose_both(alloc, sessions, plans.choices, paths)
+}
+
+/// Makes the edits of the options on the old session, and then on the new one. `paths` are those of
+/// their locks.
+fn choose_both<'a>(
+    alloc: Global,
+    sessions: (Session, Session),
+    choices: &[Choice<'a>],
+    paths: (&str, &str),
+) -> Result<(Session, Session), Refusal<'a>>
+    ensures { GivesOr (λ both. (both.0.state, both.1.state)) result
+        (both_chosen choices.now (sessions.0.state, sessions.1.state)) }
+{
+    let (mut old, mut new) = sessions;
+    choose(alloc, &mut old, choices, paths.0)?;
+    choose(alloc, &mut new, choices, paths.1)?;
     Ok((old, new))
 }
 

@@ -5,8 +5,9 @@ ghost use Rattle.std.specs.Prelude.{map, string_bytes};
 ghost use Rattle.pyver_core.specs.Name.{normal_name};
 ghost use Rattle.pylock_program.specs.Reply.{admits_answer, answered, fault_report, match_answer};
 ghost use Rattle.pylock_program.specs.Reply.{name_answer, names_text, refused_report, reply_of};
-ghost use Rattle.pylock_program.specs.Reply.{requirement_answer, requirement_shown};
-ghost use Rattle.pylock_program.specs.Reply.{sdist_answer, sdist_shown, text_shown, truth_shown};
+ghost use Rattle.pylock_program.specs.Reply.{requirement_answer, requirement_line};
+ghost use Rattle.pylock_program.specs.Reply.{requirement_shown, sdist_answer, sdist_shown};
+ghost use Rattle.pylock_program.specs.Reply.{text_shown, truth_shown};
 ghost use Rattle.pylock_program.specs.Reply.{version_answer, wheel_answer, wheel_shown};
 ghost use Rattle.pylock_run.specs.Report.Print.{Pushes};
 ghost use Rattle.pylock_run.specs.Text.Field.{field};
@@ -123,10 +124,21 @@ fn push_requirement_in(
     ensures { Pushes out.old.items out.new.items
         (answered (requirement_shown form requirement.now)) result }
 {
-    if matches!(form, Form::Json) {
-        push_document(alloc, out, requirement_document(alloc, requirement)?)?;
-        return Ok(0);
+    match form {
+        Form::Lines => push_requirement_line(alloc, out, requirement)?,
+        Form::Json => push_document(alloc, out, requirement_document(alloc, requirement)?)?,
     }
+    Ok(0)
+}
+
+fn push_requirement_line(
+    alloc: Global,
+    out: &mut Vec<u8>,
+    requirement: &Requirement,
+) -> Result<(), AllocError>
+    ensures { OnOk result (out.new.items
+        ≡ out.old.items ++ requirement_line requirement.now) }
+{
     let name = normal_name(alloc, requirement.name())?;
     push_field(out, Some(name.as_str()))?;
     push_extras(alloc, out, requirement.extras())?;
@@ -134,7 +146,7 @@ fn push_requirement_in(
     push_next_field(out, requirement.url())?;
     push_next_field(out, requirement.marker().map(|marker| marker.text()))?;
     out.push(b'\n')?;
-    Ok(0)
+    Ok(())
 }
 
 /// Pushes a TAB and the field of the extras.
