@@ -29,18 +29,18 @@ fn run(alloc: Global, inputs: &Inputs, words: &[&str]) -> anyhow::Result<String>
     let Ok(task) = command(alloc, words) else {
         return Ok(String::from_str(alloc, "refused by clap\n")?);
     };
-    let (mut text, mut notes) = (Vec::new(alloc), Vec::new(alloc));
+    let (mut text, mut diagnostics) = (Vec::new(alloc), Vec::new(alloc));
     let mut host = Host {
         files: InputFiles { inputs },
         reader: Pieces::new(b"", 1, None),
         outputs: Outputs {
             writer: ToWrite::new(&mut text),
-            notes: ToWrite::new(&mut notes),
+            diagnostics: ToWrite::new(&mut diagnostics),
         },
     };
     let end = perform(alloc, task, &mut host);
     let mut told = text_with_status(text, end)?;
-    told.push_str(std::str::from_utf8(&notes)?)?;
+    told.push_str(std::str::from_utf8(&diagnostics)?)?;
     Ok(told)
 }
 

@@ -164,9 +164,9 @@ fn read_each<S: Source>(alloc: Global, reads: usize, source: &mut S) -> anyhow::
 fn run_on<S: Source>(alloc: Global, case: &Table, source: &mut S) -> anyhow::Result<String> {
     let lock = files::lock(alloc, case)?;
     let environment = files::environment(alloc, case)?;
-    let mut room = Room::new(alloc, PIECE, 1, None)?;
-    let end = run(alloc, &lock, &environment, source, &mut room);
-    text_with_status(Vec::from_slice(alloc, room.bytes())?, end)
+    let mut capacity = Room::new(alloc, PIECE, 1, None)?;
+    let end = run(alloc, &lock, &environment, source, &mut capacity);
+    text_with_status(Vec::from_slice(alloc, capacity.bytes())?, end)
 }
 
 /// What writing into the sink `into` answers, and the bytes that were taken; of a writer with
@@ -175,11 +175,11 @@ pub(crate) fn write_case(alloc: Global, case: &Table) -> anyhow::Result<String> 
     let mut taken = Vec::new(alloc);
     let is_terminal = case.contains_key("terminal");
     let mut told = match case.get("into").and_then(Value::as_str) {
-        Some("room") => {
-            let size = number(case, "room").unwrap_or(0);
-            let mut room = Room::new(alloc, size, piece(case), failing(case))?;
-            let told = write_to(alloc, case, &mut room)?;
-            taken.extend_from_slice(room.bytes())?;
+        Some("capacity") => {
+            let size = number(case, "capacity").unwrap_or(0);
+            let mut capacity = Room::new(alloc, size, piece(case), failing(case))?;
+            let told = write_to(alloc, case, &mut capacity)?;
+            taken.extend_from_slice(capacity.bytes())?;
             told
         }
         Some("array") => {

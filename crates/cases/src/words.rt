@@ -31,7 +31,7 @@ fn question_text(alloc: Global, question: &Question<'_>) -> Result<String, Alloc
         machine,
         strict,
     } = question.opening;
-    let choices = &question.choices;
+    let options = &question.options;
     let strict = if strict { "strict " } else { "" };
-    format!(in alloc; "{strict}{view:?}({lock:?}, {machine:?}, {choices:?}, {form:?})")
+    format!(in alloc; "{strict}{view:?}({lock:?}, {machine:?}, {options:?}, {form:?})")
 }

@@ -68,7 +68,7 @@ fn perform_here(rt: &HostRuntime, task: Task<'_>) -> Result<u8, Failure> {
         reader: FromRead::new(rt.stdin()),
         outputs: Outputs {
             writer: output(rt, rt.stdout()),
-            notes: output(rt, rt.stderr()),
+            diagnostics: output(rt, rt.stderr()),
         },
     };
     perform(rt.alloc(), task, &mut host)

@@ -11,7 +11,7 @@ use Rattle.pytext.specs.Results.{◌>>=◌}
 use Rattle.pylock_readers.specs.Entry.{EntryValue}
 use Rattle.pylock_readers.specs.Lock.{HeadValue, LockValue}
 use Rattle.pylock_readers.specs.Lock.Head.{created_by_in, head_in, lock_version_in}
-use Rattle.pylock_readers.specs.Lock.Reading.{document_in, entries_in, entries_of, item_count, lock_in, lock_of, most_entries, packages_in, room_for}
+use Rattle.pylock_readers.specs.Lock.Reading.{document_in, entries_in, entries_of, item_count, lock_in, lock_of, most_entries, packages_in, capacity_for}
 use Rattle.pylock_readers.specs.Inner.Elements.{lock_with}
 use Rattle.pylock_readers.specs.declared.error.LockError.{LockError}
 use Rattle.pylock_readers.proofs.ElementLemmas.{count_push, with_is}
@@ -58,19 +58,19 @@ Same found lock ds looked =
     ≡ (lock >>= beside (λ lock. found ++ of_entries All lock.head 1 lock.entries (of_tables looked)))
 
 -- room for entries, and the tables that are looked at, where there are too many or not
-abbrev room_unless : Bool → Result ⊤ LockError
-room_unless many = if many then Err TooMany else Ok tt
+abbrev capacity_unless : Bool → Result ⊤ LockError
+capacity_unless many = if many then Err TooMany else Ok tt
 
 abbrev looked_unless : Bool → Items → Items
 looked_unless many ds = if many then no_items else ds
 
 by_count : (found : List LockFindingValue) (head : HeadValue) (ds : Items) (many : Bool)
-    → Same found ((room_unless many >>= (λ _. entries_of 1 ds)) >>= (λ es. Ok (lock_of_parts head es))) ds (looked_unless many ds)
+    → Same found ((capacity_unless many >>= (λ _. entries_of 1 ds)) >>= (λ es. Ok (lock_of_parts head es))) ds (looked_unless many ds)
 by_count found head ds true = refl
 by_count found head ds false = refl
 
 by_steps : (found : List LockFindingValue) (version : Result ⊤ LockError) (creator : Result ⊤ LockError) (head : Result HeadValue LockError) (packages : Option Data)
-    → Same found (lock_by version creator head (packages_in packages >>= (λ ds. room_for ds >>= (λ _. entries_of 1 ds)))) (items_in packages) (looked_at (items_in packages))
+    → Same found (lock_by version creator head (packages_in packages >>= (λ ds. capacity_for ds >>= (λ _. entries_of 1 ds)))) (items_in packages) (looked_at (items_in packages))
 by_steps found (Err e) creator head packages = refl
 by_steps found (Ok x) (Err e) head packages = refl
 by_steps found (Ok x) (Ok y) (Err e) packages = refl

@@ -23,8 +23,8 @@ pub writes_itself : {definition : Result (List ℕ) Refusal} {items old new : Li
     → definition ≡ Ok items → count ≡ length items → count ≤ length old → new ≡ items ++ drop count old
     → Writes definition old new needed count (pos 0)
 writes_itself {items = items} {old = old} gives counted fits put =
-    let roomy : is_short old items ≡ false = grind (arith, nat_tests) in
-    (Ok items, gives, rw roomy refl, rw (roomy, ← counted) put, counted)
+    let ample : is_short old items ≡ false = grind (arith, nat_tests) in
+    (Ok items, gives, rw ample refl, rw (ample, ← counted) put, counted)
 
 pub writes_some : (A : Type 0) (definition : Result (List ℕ) Refusal) (items old new : List ℕ) (result : Option ℕ) → definition ≡ Ok items
     → SomeIff result A (length items) → IfSome result (λ count. count ≤ length old) → IfSome result (λ count. new ≡ items ++ drop count old)

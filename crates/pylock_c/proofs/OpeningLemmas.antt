@@ -5,7 +5,7 @@ use Rattle.pylock_run.specs.Text.Refusal.{refusal_text}
 use Rattle.pylock_run.specs.declared.report.opening.OpenError.{OpenError}
 use Rattle.pylock_c.specs.Opening.{Leaves, Opens, open_refusal}
 use Rattle.pylock_command.specs.declared.form.Form.{Form}
-use Rattle.pylock_program.specs.Refusal.{unopened_told}
+use Rattle.pylock_program.specs.Refusal.{unopened_printed}
 use Rattle.pylock_program.specs.declared.opening.Unopened.{Unopened}
 use Rattle.pylock_c.specs.Refusal.{number}
 use Rattle.pylock_c.specs.Strict.{OpensStrictly, unopened_refusal}
@@ -26,13 +26,13 @@ refused_opens {refusal = refusal} {code = code} {code' = code'} {wanted = wanted
 
 -- the same of a lock that is taken strictly
 pub unopened_opens : (form : Form) {definition : Result Object Unopened} {unopened : Unopened} {text : Object} {code code' wanted : ℤ}
-    {words words' : Option Object} (slot : Option Object) → definition ≡ Err unopened → text ≡ kind.Text (unopened_told form None unopened)
+    {words words' : Option Object} (slot : Option Object) → definition ≡ Err unopened → text ≡ kind.Text (unopened_printed form None unopened)
     → code ≡ number (unopened_refusal unopened) → wanted ≡ code' → Leaves text code words words' code'
     → OpensStrictly form definition slot slot words words' wanted
 unopened_opens form {unopened = unopened} {code = code} {code' = code'} {wanted = wanted} {words = words} {words' = words'} slot is text told same leaves =
     subst (λ (d : Result Object Unopened). OpensStrictly form d slot slot words words' wanted) (sym is) (
-      subst (λ (z : ℤ). Leaves (kind.Text (unopened_told form None unopened)) (number (unopened_refusal unopened)) words words' z) (sym same)
-          (subst (λ (z : ℤ). Leaves (kind.Text (unopened_told form None unopened)) z words words' code') told
+      subst (λ (z : ℤ). Leaves (kind.Text (unopened_printed form None unopened)) (number (unopened_refusal unopened)) words words' z) (sym same)
+          (subst (λ (z : ℤ). Leaves (kind.Text (unopened_printed form None unopened)) z words words' code') told
           (subst (λ (l : Object). Leaves l code words words' code') text leaves)),
       refl,
     )

@@ -5,7 +5,7 @@ use Rattle.std.specs.Result.{result_map_both}
 use Rattle.pylock_command.specs.declared.form.Form.{Form}
 use Rattle.pylock_core.specs.Session.Judgement.{all_numbers}
 use Rattle.pylock_core.specs.Session.State.{State}
-use Rattle.pylock_program.specs.Refusal.{unopened_told}
+use Rattle.pylock_program.specs.Refusal.{unopened_printed}
 use Rattle.pylock_program.specs.declared.opening.Unopened.{Unopened}
 use Rattle.pylock_program.specs.declared.opening.Unopened.TheVariants as unopened
 use Rattle.pylock_c.specs.Opening.{Leaves, open_refusal}
@@ -34,5 +34,5 @@ abbrev pub OpensStrictly : Form → Result Object Unopened → Option Object →
 OpensStrictly form (Ok object) old new words words' code =
     Leaves object (pos 0) old new code × (words' ≡ words)
 OpensStrictly form (Err unopened) old new words words' code =
-    Leaves (kind.Text (unopened_told form None unopened)) (number (unopened_refusal unopened))
+    Leaves (kind.Text (unopened_printed form None unopened)) (number (unopened_refusal unopened))
     words words' code × (new ≡ old)

@@ -13,7 +13,7 @@ use std::alloc::{AllocError, Global};
 use std::marker::Model;
 
 /// A session in memory of its own. It is some times as large as any other object, each of which
-/// would be kept in as much room. Contracts see the session.
+/// would be kept in as much memory. Contracts see the session.
 pub struct KeptSession {
     session: Box<Session>,
 }

@@ -3,7 +3,7 @@
 ghost use Rattle.std.specs.Prelude.{◌≡◌, IfOk, None, Result};
 ghost use Rattle.pytext.specs.Agreement.{Gives};
 ghost use Rattle.pylock_readers.specs.Environment.{env_of};
-ghost use Rattle.pylock_program.specs.Refusal.{unopened_told};
+ghost use Rattle.pylock_program.specs.Refusal.{unopened_printed};
 ghost use Rattle.pylock_program.specs.Opening.{strict_state};
 ghost use Rattle.pylock_program.specs.declared.opening.Unopened.{Unopened as NotOpened};
 ghost use Rattle.pylock_program.specs.declared.opening.Unopened.TheVariants as unopened;
@@ -83,7 +83,7 @@ fn open_strictly_into(
 
 /// What is printed in place of a session, as a text to be kept.
 fn words_of(alloc: Global, form: Form, unopened: &Unopened) -> Result<Object, AllocError>
-    ensures { IfOk result (λ text. text ≡ kind.Text (unopened_told form None unopened.now)) }
+    ensures { IfOk result (λ text. text ≡ kind.Text (unopened_printed form None unopened.now)) }
 {
     let mut out = Vec::new(alloc);
     push_unopened(alloc, &mut out, form, unopened, None)?;

@@ -1,2 +1,2 @@
-pub mod ChoiceLemmas
+pub mod PlanOptionLemmas
 pub mod ClapLemmas

@@ -3,7 +3,7 @@
 use Rattle.std.specs.Prelude.{◌≡◌, List, [], ◌∷◌, Option, Some, None, codes, false, true}
 use Rattle.std.specs.Prelude.{if◌then◌else◌}
 use Rattle.clap.specs.Words.{Row}
-use Rattle.pylock_command.specs.Choices.{AreChoices, has_choices}
+use Rattle.pylock_command.specs.PlanOptions.{AreOptions, has_plan_options}
 use Rattle.pylock_command.specs.Form.{IsOutput, form_of, output_misuse}
 use Rattle.pylock_command.specs.Machine.{IsMachine, machine_misuse, names_none, place_misuse}
 use Rattle.pylock_command.specs.Misuse.{first, lack}
@@ -20,7 +20,8 @@ use Rattle.pylock_command.specs.declared.task.View.{View}
 
 abbrev pub IsOpening : List Row → Opening → Type 0
 IsOpening rows opening = HasText rows (codes "LOCK") opening.lock.now
-    × IsMachine (codes "ENV") rows opening.machine × (opening.strict ≡ has_flag (codes "strict") rows)
+    × IsMachine (codes "ENV") rows opening.machine
+    × (opening.strict ≡ has_flag (codes "strict") rows)
 
 -- the words name a lock and a machine
 abbrev pub opening_misuse : List Row → Option Misuse
@@ -28,7 +29,7 @@ opening_misuse rows = first (lack (codes "LOCK") rows ∷ machine_misuse rows �
 
 abbrev pub IsQuestion : View → List Row → Question → Type 0
 IsQuestion view rows question = IsOpening rows question.opening
-    × AreChoices rows question.choices.items × IsOutput view rows question.output
+    × AreOptions rows question.options.items × IsOutput view rows question.output
 
 -- of `plan` and `explain` one of the two at most is standard input, and of `select` none
 abbrev pub question_misuse : View → List Row → Option Misuse
@@ -44,12 +45,12 @@ select_misuse rows = first (opening_misuse rows
 -- for which machine plans are compared, and with which options; or the locks, with no options
 abbrev pub IsInstallation : List Row → Option Installation → Type 0
 IsInstallation rows (Some asked) =
-    IsMachine (codes "in") rows asked.machine × AreChoices rows asked.choices.items
-IsInstallation rows None = (names_none (codes "in") rows ≡ true) × (has_choices rows ≡ false)
+    IsMachine (codes "in") rows asked.machine × AreOptions rows asked.options.items
+IsInstallation rows None = (names_none (codes "in") rows ≡ true) × (has_plan_options rows ≡ false)
 
 abbrev pub installation_misuse : List Row → Option Misuse
 installation_misuse rows =
-    if names_none (codes "in") rows then (if has_choices rows then Some NoPlans else None)
+    if names_none (codes "in") rows then (if has_plan_options rows then Some NoPlans else None)
     else place_misuse (codes "in") rows
 
 abbrev pub IsComparison : List Row → Comparison → Type 0

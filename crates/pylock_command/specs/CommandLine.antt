@@ -51,8 +51,8 @@ abbrev pub in_rules : List Rule
 in_rules = single_rule (codes "in") ∷ target_rules
 
 -- the options of `plan`
-abbrev pub choice_rules : List Rule
-choice_rules = flag_rule (codes "all-extras") ∷ repeated_rule (codes "extra")
+abbrev pub option_rules : List Rule
+option_rules = flag_rule (codes "all-extras") ∷ repeated_rule (codes "extra")
     ∷ flag_rule (codes "no-default-groups") ∷ flag_rule (codes "all-groups")
     ∷ repeated_rule (codes "group") ∷ repeated_rule (codes "no-group")
     ∷ repeated_rule (codes "only-binary") ∷ repeated_rule (codes "no-binary")
@@ -89,15 +89,15 @@ text_row name = row name (text_rule (codes "TEXT") ∷ json ∷ []) (lack (codes
 
 abbrev pub subcommands : List Subcommand
 subcommands =
-    row (codes "plan") (locked (machine_rules ++ choice_rules ++ strict ∷ format ∷ json ∷ []))
+    row (codes "plan") (locked (machine_rules ++ option_rules ++ strict ∷ format ∷ json ∷ []))
     (question_misuse Plan)
-    ∷ row (codes "explain") (locked (machine_rules ++ choice_rules ++ strict ∷ json ∷ []))
+    ∷ row (codes "explain") (locked (machine_rules ++ option_rules ++ strict ∷ json ∷ []))
     (question_misuse Explain)
     ∷ row (codes "select") (locked (machine_rules ++ strict ∷ json ∷ [])) select_misuse
     ∷ row (codes "files") (locked (format ∷ json ∷ [])) files_misuse
     ∷ row (codes "audit") (locked (json ∷ [])) (lack (codes "LOCK"))
     ∷ row (codes "diff") (text_rule (codes "OLD") ∷ text_rule (codes "NEW") ∷ in_rules
-    ++ choice_rules ++ json ∷ []) comparison_misuse
+    ++ option_rules ++ json ∷ []) comparison_misuse
     ∷ row (codes "environment")
     (needed_rule (codes "python") ∷ needed_rule (codes "platform") ∷ []) target_misuse
     ∷ text_row (codes "version")

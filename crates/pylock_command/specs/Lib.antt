@@ -1,6 +1,6 @@
 pub mod Argument
 pub mod Asked
-pub mod Choices
+pub mod PlanOptions
 pub mod CommandLine
 pub mod Commands
 pub mod Form

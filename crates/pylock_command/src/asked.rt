@@ -6,10 +6,10 @@ ghost use Rattle.pylock_command.specs.Asked.{IsQuestion, comparison_misuse, inst
 ghost use Rattle.pylock_command.specs.Asked.{opening_misuse, question_misuse, select_misuse};
 ghost use Rattle.pylock_command.specs.Misuse.{Refuses, RefusesUnless};
 
-use crate::choices::choices_of;
 use crate::form::{form_of, output_of};
 use crate::machine::{machine_of, place_of};
 use crate::misuse::{Misuse, NoTask};
+use crate::options::options_of;
 use crate::task::{Comparison, Installation, Opening, Question, View};
 use crate::texts::{has_flag, judge_input, judge_inputs, text_of};
 use clap::ArgMatches;
@@ -26,11 +26,11 @@ pub(crate) fn question_of<'a>(
 {
     let opening = opening_of(found)?;
     judge_inputs(found, "LOCK", "ENV")?;
-    let choices = choices_of(alloc, found)?;
+    let options = options_of(alloc, found)?;
     let output = output_of(view, found)?;
     Ok(Question {
         opening,
-        choices,
+        options,
         output,
     })
 }
@@ -88,11 +88,11 @@ fn installation_of<'a>(
     ensures refused { RefusesUnless (installation_misuse (rows_of (found_of found.now))) result }
 {
     let place = place_of(found, "in")?;
-    let choices = choices_of(alloc, found)?;
+    let options = options_of(alloc, found)?;
     match place {
-        Some(machine) => Ok(Some(Installation { machine, choices })),
+        Some(machine) => Ok(Some(Installation { machine, options })),
         None => {
-            if !choices.is_empty() {
+            if !options.is_empty() {
                 return Err(NoTask::Misused(Misuse::NoPlans));
             }
             Ok(None)

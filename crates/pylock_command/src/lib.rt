@@ -16,21 +16,21 @@
 
 mod argument;
 mod asked;
-mod choice;
-mod choices;
 mod command_line;
 mod form;
 mod help;
 mod machine;
 mod misuse;
+mod option;
+mod options;
 mod subcommand;
 mod task;
 mod texts;
 
-pub use choice::Choice;
 pub use command_line::{CommandError, command};
 pub use form::{FileFormat, Form, PlanFormat};
 pub use machine::{Machine, TargetWords};
+pub use option::PlanOption;
 pub use task::{
     Comparison, FilesOutput, Installation, Opening, Output, Question, Task, TextQuestion, View,
 };

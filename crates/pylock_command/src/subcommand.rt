@@ -6,10 +6,10 @@ ghost use Rattle.pylock_command.specs.Subcommand.{usage_app};
 ghost use Rattle.pylock_command.specs.Commands.{IsCommand, IsLocal};
 
 use crate::argument::{Argument, Kind, with_groups};
-use crate::choices::CHOICES;
 use crate::form::{FORMAT, JSON, JSON_LINES};
 use crate::help;
 use crate::machine::{ENV, IN, NEEDED_TARGET, SELECT_ENV, TARGET};
+use crate::options::CHOICES;
 use clap::Command;
 use std::alloc::{AllocError, Global};
 

@@ -1,8 +1,8 @@
 //! What the program is asked to do.
 
-use crate::choice::Choice;
 use crate::form::{FileFormat, Form, PlanFormat};
 use crate::machine::{Machine, TargetWords};
+use crate::option::PlanOption;
 
 /// What is shown of a lock for a machine.
 #[derive(Clone, Copy, Debug, PartialEq, Eq)]
@@ -48,7 +48,7 @@ pub struct Question<'a> {
     /// The lock and the machine.
     pub opening: Opening<'a>,
     /// The options.
-    pub choices: Vec<Choice<'a>>,
+    pub options: Vec<PlanOption<'a>>,
     /// How the answer is printed.
     pub output: Output,
 }
@@ -59,7 +59,7 @@ pub struct Installation<'a> {
     /// The machine.
     pub machine: Machine<'a>,
     /// The options.
-    pub choices: Vec<Choice<'a>>,
+    pub options: Vec<PlanOption<'a>>,
 }
 
 /// What `diff` is asked.

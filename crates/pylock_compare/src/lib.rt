@@ -1,11 +1,11 @@
 //! What is compared of two documents: rows under names, lists of texts, and partners, which are
 //! alike in both.
 //!
-//! From `crates/pylock_diff/src/names.rt`:
+//! From `crates/pylock_diff/src/keys.rt`:
 //!
 //! ```rust
-//! let sides = Sides::new(alloc, olds, news)?;
-//! for name in &sides.names {
+//! for key in &sides.names {
+//!     let values = (sides.old(key), sides.new_values(key));
 //! ```
 #![tactic(auto)]
 

@@ -163,8 +163,8 @@ record IsListed (field : Option Data) : Type 0 where
   tables : AreTables (items_at field)
   proper : AreProper (items_at field) → IfThere IsProper field
 
-abbrev room_unless : Bool → Result ⊤ LockError
-room_unless many = if many then Err TooMany else Ok tt
+abbrev capacity_unless : Bool → Result ⊤ LockError
+capacity_unless many = if many then Err TooMany else Ok tt
 
 listed : (field : Option Data) (es : List EntryValue) → entries_in field ≡ Ok es → IsListed field
 unfolding entries_in
@@ -178,7 +178,7 @@ listed (Some (table ms)) es is = cc
 listed (Some (array ds)) es is = by (nat_lt most_entries (item_count ds)) refl is
   where
     by : (many : Bool) → nat_lt most_entries (item_count ds) ≡ many
-        → (room_unless many >>= (λ room. entries_of 1 ds)) ≡ Ok es → IsListed (Some (array ds))
+        → (capacity_unless many >>= (λ capacity. entries_of 1 ds)) ≡ Ok es → IsListed (Some (array ds))
     by true many is = cc
     by false many is = record {
       few = ltb-false most_entries (item_count ds) many;

@@ -29,10 +29,10 @@ keys_front items i one within is =
 pub same_more : (olds news : List Item) (i : ℕ) (old new : Item) → i < length olds → old ≡ get_or olds i old → i < length news → new ≡ get_or news i new
     → (lent_item old).keys ≡ (lent_item new).keys → keys_of (take i olds) ≡ keys_of (take i news)
     → keys_of (take (i + 1) olds) ≡ keys_of (take (i + 1) news)
-same_more olds news i old new within is room got same so_far =
+same_more olds news i old new within is capacity got same so_far =
     keys_front olds i old within is
     ∙ (λ j. so_far j ++ row_texts (same j) ∷ [])
-    ∙ sym (keys_front news i new room got)
+    ∙ sym (keys_front news i new capacity got)
 
 lent_where : (flags : List Bool) (items : List Item) → lent_items (where_true flags items) ≡ where_true flags (lent_items items)
 lent_where [] items = refl

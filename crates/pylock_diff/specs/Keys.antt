@@ -1,6 +1,6 @@
 -- The keys of the entries of a name of which no other line tells.
-use Rattle.std.specs.Prelude.{ℕ, Bool, true, false, not, ◌&&◌, ◌||◌, ◌++◌, List, [], ◌∷◌, codes, map}
-use Rattle.std.specs.Prelude.{if◌then◌else◌, nat_eq, suc, Some}
+use Rattle.std.specs.Prelude.{ℕ, Bool, true, false, not, ◌&&◌, ◌||◌, ◌++◌, List, [], ◌∷◌, codes}
+use Rattle.std.specs.Prelude.{map, if◌then◌else◌, nat_eq, suc, Some}
 use Rattle.std.specs.Cmp.Lexicographic.{pointwise}
 use Rattle.std.specs.List.{join_by, list_any}
 use Rattle.std.specs.Str.{bytes_eq}

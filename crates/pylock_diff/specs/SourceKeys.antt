@@ -26,8 +26,8 @@ archive_keys = codes "path" ∷ codes "hashes" ∷ codes "subdirectory" ∷ []
 abbrev pub file_keys : List (List ℕ)
 file_keys = codes "name" ∷ codes "url" ∷ codes "path" ∷ codes "hashes" ∷ []
 
--- Whether a row tells of a key of a source, which has a path or hasn't. The URL of a checkout and of
--- an archive is told where it is their place.
+-- Whether a row tells of a key of a source, which has a path or hasn't. The URL of a checkout and
+-- of an archive is told where it is their place.
 abbrev pub told_by : SourceTable → (has_path : Bool) → List ℕ → Bool
 told_by kinds.Vcs has_path key =
     is_one_of vcs_keys key || (bytes_eq key (codes "url") && not has_path)

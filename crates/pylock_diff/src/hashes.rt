@@ -67,7 +67,8 @@ fn push_both(
     news: &[PickedSource<'_>],
 ) -> Result<(), AllocError>
     ensures { OnOk result (changes.new.items ≡ changes.old.items ++ under_each
-        (value_changes name.now (label_of (lent_sources olds.now)) (label_of (lent_sources news.now)))
+        (value_changes name.now (label_of (lent_sources olds.now))
+        (label_of (lent_sources news.now)))
         (flat_map source_hashes (lent_sources olds.now))
         (flat_map source_hashes (lent_sources news.now))) }
 {

@@ -6,7 +6,7 @@
 //!
 //! ```rust
 //! let changes = lock_changes(alloc, old, new)?;
-//! write_shown(alloc, form, &changes, writer)
+//! write_changes(alloc, form, &changes, writer)
 //! ```
 #![tactic(auto)]
 

@@ -6,7 +6,8 @@ ghost use Rattle.std.specs.Option.{option_copied};
 ghost use Rattle.pylock_core.specs.Session.Picks.{lent_source, source_location};
 ghost use Rattle.pylock_compare.specs.Lent.{lent_texts, told_under};
 ghost use Rattle.pylock_compare.specs.Rows.{in_order};
-ghost use Rattle.pylock_diff.specs.Files.{part_of, parts_of, places_text, places_told, shown_places};
+ghost use Rattle.pylock_diff.specs.Files.{part_of, parts_of, places_text, places_told};
+ghost use Rattle.pylock_diff.specs.Files.{shown_places};
 ghost use Rattle.pylock_diff.specs.Hashes.{are_same_sets};
 ghost use Rattle.pylock_diff.specs.Inner.Lent.{lent_sources};
 

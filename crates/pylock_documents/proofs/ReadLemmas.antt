@@ -369,23 +369,23 @@ decimal_printable =
 mutual
   unfolding IsTold
 
-  told : (d : Data) → IsWritten d → AreTold (tree.json_tokens (outline d))
-  told value.null h = (tt, tt)
-  told (value.boolean b) h = (tt, tt)
-  told (value.number (value.unsigned n)) h = ((IsNumber-decimal n h, decimal_printable n h), tt)
-  told (value.number (value.negative z)) h = absurd h
-  told (value.number (value.float x)) h = absurd h
-  told (value.string s) h = (h, tt)
-  told (value.array ds) h = (tt, items_told ds h)
-  told (value.object ms) h = (tt, members_told ms h)
+  diagnostic : (d : Data) → IsWritten d → AreTold (tree.json_tokens (outline d))
+  diagnostic value.null h = (tt, tt)
+  diagnostic (value.boolean b) h = (tt, tt)
+  diagnostic (value.number (value.unsigned n)) h = ((IsNumber-decimal n h, decimal_printable n h), tt)
+  diagnostic (value.number (value.negative z)) h = absurd h
+  diagnostic (value.number (value.float x)) h = absurd h
+  diagnostic (value.string s) h = (h, tt)
+  diagnostic (value.array ds) h = (tt, items_told ds h)
+  diagnostic (value.object ms) h = (tt, members_told ms h)
 
   items_told : (ds : Items) → ItemsWritten ds → AreTold (tree.items_tokens (items_outline ds))
   items_told value.no_items h = (tt, tt)
-  items_told (value.item d ds) h = told_both (tree.json_tokens (outline d)) (tree.items_tokens (items_outline ds)) (told d h.0) (items_told ds h.1)
+  items_told (value.item d ds) h = told_both (tree.json_tokens (outline d)) (tree.items_tokens (items_outline ds)) (diagnostic d h.0) (items_told ds h.1)
 
   members_told : (ms : Members) → MembersWritten ms → AreTold (tree.members_tokens (members_outline ms))
   members_told value.no_members h = (tt, tt)
-  members_told (value.member k d ms) h = (h.0, told_both (tree.json_tokens (outline d)) (tree.members_tokens (members_outline ms)) (told d h.1) (members_told ms h.2))
+  members_told (value.member k d ms) h = (h.0, told_both (tree.json_tokens (outline d)) (tree.members_tokens (members_outline ms)) (diagnostic d h.1) (members_told ms h.2))
 
 abbrev value_of : List Lexeme → Option Data
 value_of lexemes = option_and_then of_json (option_and_then (λ p. json.if_last p.0 p.1) (json.value max_depth (punctuate fresh lexemes)))
@@ -394,4 +394,4 @@ value_of lexemes = option_and_then of_json (option_and_then (λ p. json.if_last 
 pub reads_back : (d : Data) → IsWritten d → read (safe_json (compact_text d) ++ codes "\n") ≡ read (compact_text d)
 reads_back d h =
     subst (λ t. read (safe_json t ++ codes "\n") ≡ read t) (print-outline d)
-    (ap value_of (line_lexed false (tree.json_tokens (outline d)) (told d h)))
+    (ap value_of (line_lexed false (tree.json_tokens (outline d)) (diagnostic d h)))

@@ -44,12 +44,12 @@ rows_elsewhere q (row ∷ rows) ms apart =
     let (first, rest) = or_parts (bytes_eq q row.0) (list_any (λ (r : Row). bytes_eq q r.0) rows) apart in
     rows_elsewhere q rows (with_row row ms) rest ∙ row_elsewhere q row ms first
 
-pub words_stand : (words : List (List ℕ)) (told : Option DiagnosticValue) → get_member (codes "refused") (members_of (refused_rows words told)) ≡ Some (texts_of words)
+pub words_stand : (words : List (List ℕ)) (diagnostic : Option DiagnosticValue) → get_member (codes "refused") (members_of (refused_rows words diagnostic)) ≡ Some (texts_of words)
 words_stand words None = refl
-words_stand words (Some told) = rows_elsewhere (codes "refused") (diagnostic_rows told) (members_of (refused_rows words None)) refl
+words_stand words (Some diagnostic) = rows_elsewhere (codes "refused") (diagnostic_rows diagnostic) (members_of (refused_rows words None)) refl
 
-pub no_others : (key : List ℕ) (words : List (List ℕ)) (told : Option DiagnosticValue) → is_refusal_key key ≡ false → get_member key (members_of (refused_rows words told)) ≡ None
-no_others key words told other = by told
+pub no_others : (key : List ℕ) (words : List (List ℕ)) (diagnostic : Option DiagnosticValue) → is_refusal_key key ≡ false → get_member key (members_of (refused_rows words diagnostic)) ≡ None
+no_others key words diagnostic other = by diagnostic
   where
     by : (o : Option DiagnosticValue) → get_member key (members_of (refused_rows words o)) ≡ None
     by None =

@@ -106,20 +106,20 @@ explain_rows state =
 
 -- where a file is wrong, or why something else is refused
 abbrev pub diagnostic_rows : DiagnosticValue → List Row
-diagnostic_rows told =
-    (codes "message", there told.message)
-    ∷ (codes "file", maybe told.file)
-    ∷ (codes "line", maybe_numbered told.line)
-    ∷ (codes "column", maybe_numbered told.column)
-    ∷ (codes "entry", maybe_numbered told.entry)
-    ∷ (codes "name", maybe told.name)
-    ∷ (codes "key", maybe told.key)
+diagnostic_rows diagnostic =
+    (codes "message", there diagnostic.message)
+    ∷ (codes "file", maybe diagnostic.file)
+    ∷ (codes "line", maybe_numbered diagnostic.line)
+    ∷ (codes "column", maybe_numbered diagnostic.column)
+    ∷ (codes "entry", maybe_numbered diagnostic.entry)
+    ∷ (codes "name", maybe diagnostic.name)
+    ∷ (codes "key", maybe diagnostic.key)
     ∷ []
 
 -- the words of a refusal, and beside them what is told of it
 abbrev pub refused_rows : List (List ℕ) → Option DiagnosticValue → List Row
-refused_rows words told =
-    (codes "refused", Some (texts_of words)) ∷ option_map_or diagnostic_rows told []
+refused_rows words diagnostic =
+    (codes "refused", Some (texts_of words)) ∷ option_map_or diagnostic_rows diagnostic []
 
 -- of a line of the input, which has this number
 abbrev pub refused_line_rows : ℕ → List (List ℕ) → List Row

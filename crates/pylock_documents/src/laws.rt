@@ -19,12 +19,12 @@ ghost use Rattle.pylock_documents.specs.Safe.{IsWritten, safe_json};
 /// Whatever is told of a refusal, its document has the words, and beside them no member but those
 /// that may tell of it.
 pub fn refusals_have_their_words()
-    ensures words { (words : List (List ℕ)) (told : Option DiagnosticValue)
-        → get_member (codes "refused") (members_of (refused_rows words told))
+    ensures words { (words : List (List ℕ)) (diagnostic : Option DiagnosticValue)
+        → get_member (codes "refused") (members_of (refused_rows words diagnostic))
         ≡ Some (texts_of words) }
-    ensures others { (key : List ℕ) (words : List (List ℕ)) (told : Option DiagnosticValue)
+    ensures others { (key : List ℕ) (words : List (List ℕ)) (diagnostic : Option DiagnosticValue)
         → is_refusal_key key ≡ false
-        → get_member key (members_of (refused_rows words told)) ≡ None }
+        → get_member key (members_of (refused_rows words diagnostic)) ≡ None }
 {}
 
 /// A line of safe JSON reads as the JSON that it was made of.

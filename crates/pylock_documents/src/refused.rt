@@ -17,15 +17,15 @@ use std::alloc::{AllocError, Global};
 pub fn refused_document(
     alloc: Global,
     words: &[&str],
-    told: Option<&Diagnostic>,
+    diagnostic: Option<&Diagnostic>,
 ) -> Result<Object, AllocError>
     ensures { IfOk result (λ object. members_view object
-        ≡ members_of (refused_rows (map (λ w. w.now) words.now) (option_copied told.entry))) }
+        ≡ members_of (refused_rows (map (λ w. w.now) words.now) (option_copied diagnostic.entry))) }
 {
     let words = words_list(alloc, words)?;
     let mut object = Object::new(alloc);
     object.put(alloc, "refused", words.into_json())?;
-    put_told(alloc, &mut object, told)?;
+    put_maybe_diagnostic(alloc, &mut object, diagnostic)?;
     Ok(object)
 }
 
@@ -55,26 +55,34 @@ fn words_list(alloc: Global, words: &[&str]) -> Result<List, AllocError>
 }
 
 /// Puts what is told, where something is.
-fn put_told(alloc: Global, object: &mut Object, told: Option<&Diagnostic>) -> Result<(), AllocError>
+fn put_maybe_diagnostic(
+    alloc: Global,
+    object: &mut Object,
+    diagnostic: Option<&Diagnostic>,
+) -> Result<(), AllocError>
     ensures { OnOk result (members_view object.new
-        ≡ with_rows (option_map_or diagnostic_rows (option_copied told.entry) [])
+        ≡ with_rows (option_map_or diagnostic_rows (option_copied diagnostic.entry) [])
         (members_view object.old)) }
 {
-    match told {
-        Some(told) => put_diagnostic(alloc, object, told),
+    match diagnostic {
+        Some(diagnostic) => put_diagnostic(alloc, object, diagnostic),
         None => Ok(()),
     }
 }
 
-fn put_diagnostic(alloc: Global, object: &mut Object, told: &Diagnostic) -> Result<(), AllocError>
+fn put_diagnostic(
+    alloc: Global,
+    object: &mut Object,
+    diagnostic: &Diagnostic,
+) -> Result<(), AllocError>
     ensures { OnOk result (members_view object.new
-        ≡ with_rows (diagnostic_rows told.now) (members_view object.old)) }
+        ≡ with_rows (diagnostic_rows diagnostic.now) (members_view object.old)) }
 {
-    object.put_text(alloc, "message", told.message())?;
-    object.put_maybe(alloc, "file", told.file())?;
-    object.put_maybe_number(alloc, "line", told.line())?;
-    object.put_maybe_number(alloc, "column", told.column())?;
-    object.put_maybe_number(alloc, "entry", told.entry())?;
-    object.put_maybe(alloc, "name", told.name())?;
-    object.put_maybe(alloc, "key", told.key())
+    object.put_text(alloc, "message", diagnostic.message())?;
+    object.put_maybe(alloc, "file", diagnostic.file())?;
+    object.put_maybe_number(alloc, "line", diagnostic.line())?;
+    object.put_maybe_number(alloc, "column", diagnostic.column())?;
+    object.put_maybe_number(alloc, "entry", diagnostic.entry())?;
+    object.put_maybe(alloc, "name", diagnostic.name())?;
+    object.put_maybe(alloc, "key", diagnostic.key())
 }

@@ -48,8 +48,8 @@ fn push_units(out: &mut String, character: char) -> Result<(), AllocError>
     ensures { OnOk result (string_bytes out.new
         ≡ string_bytes out.old ++ flat_map escaped_unit (encode_utf16 character)) }
 {
-    let mut room = [0; 2];
-    let units: &[u16] = character.encode_utf16(&mut room);
+    let mut capacity = [0; 2];
+    let units: &[u16] = character.encode_utf16(&mut capacity);
     for unit in units {
         push_unit(out, *unit)?;
     }

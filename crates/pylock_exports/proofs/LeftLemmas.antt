@@ -17,15 +17,15 @@ take_none (suc n) [] is = refl
 take_none (suc n) (x ∷ xs) is = cc is
 
 -- as many more, one of them first
-taken : (first : Entries) (x : ℕ × List ℕ) (more : Entries) (room : ℕ) → room ≡ 5 - length first
-    → first ++ take room (x ∷ more) ≡ (first ++ take room (x ∷ [])) ++ take (5 - length (first ++ take room (x ∷ []))) more
+taken : (first : Entries) (x : ℕ × List ℕ) (more : Entries) (capacity : ℕ) → capacity ≡ 5 - length first
+    → first ++ take capacity (x ∷ more) ≡ (first ++ take capacity (x ∷ [])) ++ take (5 - length (first ++ take capacity (x ∷ []))) more
 taken first x more zero is =
     let none : 5 - length (first ++ []) ≡ 0 = omega (arith, sym is, ap length (append-nil first)) in
     sym (ap (λ n. (first ++ []) ++ take n more) none ∙ append-nil (first ++ []))
-taken first x more (suc room) is =
-    let one : take (suc room) (x ∷ []) ≡ x ∷ [] = ap (λ r. x ∷ r) (take_none room [] refl) in
-    let left : 5 - length (first ++ x ∷ []) ≡ room = omega (arith, sym is, length-append first (x ∷ [])) in
-    sym (append_assoc first (x ∷ []) (take room more))
+taken first x more (suc capacity) is =
+    let one : take (suc capacity) (x ∷ []) ≡ x ∷ [] = ap (λ r. x ∷ r) (take_none capacity [] refl) in
+    let left : 5 - length (first ++ x ∷ []) ≡ capacity = omega (arith, sym is, length-append first (x ∷ [])) in
+    sym (append_assoc first (x ∷ []) (take capacity more))
     ∙ ap (λ n. (first ++ x ∷ []) ++ take n more) (sym left)
     ∙ ap (λ l. (first ++ l) ++ take (5 - length (first ++ l)) more) (sym one)
 

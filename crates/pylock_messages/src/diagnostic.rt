@@ -158,16 +158,16 @@ impl Diagnostic {
 /// The same place, where the line says these words of the file; without words it stays.
 pub(crate) fn saying(
     alloc: Global,
-    told: Option<Diagnostic>,
+    diagnostic: Option<Diagnostic>,
     words: Option<&str>,
 ) -> Result<Option<Diagnostic>, AllocError> {
-    match (told, words) {
+    match (diagnostic, words) {
         (Some(mut diagnostic), Some(words)) => {
             let file = diagnostic.file.as_deref().unwrap_or("");
             let line = format!(in alloc; "{file}: {words}")?;
             diagnostic.message = visible_text(alloc, line.as_str())?;
             Ok(Some(diagnostic))
         }
-        (told, _) => Ok(told),
+        (diagnostic, _) => Ok(diagnostic),
     }
 }

@@ -54,8 +54,8 @@ pub fn environment_diagnostic(
     match Value::from_str(alloc, text) {
         Ok(value) => wrong_part(alloc, name, wrong_value(&value, refusal)),
         Err(fault) => {
-            let told = wrong_json(alloc, name, text, fault)?;
-            saying(alloc, told, other_than_json(alloc, text)?)
+            let diagnostic = wrong_json(alloc, name, text, fault)?;
+            saying(alloc, diagnostic, other_than_json(alloc, text)?)
         }
     }
 }

@@ -42,12 +42,12 @@ pub fn lock_diagnostic(
     };
     match toml::table_from_str(alloc, text) {
         Ok(document) => {
-            let told = document_diagnostic(alloc, name, &document, refusal)?;
-            saying(alloc, told, other_than_lock(text, &document))
+            let diagnostic = document_diagnostic(alloc, name, &document, refusal)?;
+            saying(alloc, diagnostic, other_than_lock(text, &document))
         }
         Err(fault) => {
-            let told = wrong_toml(alloc, name, text, fault)?;
-            saying(alloc, told, other_than_toml(text))
+            let diagnostic = wrong_toml(alloc, name, text, fault)?;
+            saying(alloc, diagnostic, other_than_toml(text))
         }
     }
 }

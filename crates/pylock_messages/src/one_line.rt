@@ -55,7 +55,7 @@ fn write_table<W: Write>(f: &mut Formatter<W>, table: &Table) -> fmt::Result {
     f.write_str(" }")
 }
 
-/// Writes a key as it is shown. By itself, since its text would else take room in each call of
+/// Writes a key as it is shown. By itself, since its text would else take stack in each call of
 /// those that call one another.
 #[inline(never)]
 fn write_shown_key<W: Write>(f: &mut Formatter<W>, key: &str) -> fmt::Result {

@@ -52,7 +52,7 @@ fn write_members<W: Write>(f: &mut Formatter<W>, members: &Map<String, Value>) -
     f.write_str("}")
 }
 
-/// Writes a text as it is shown. By itself, since its text would else take room in each call of
+/// Writes a text as it is shown. By itself, since its text would else take stack in each call of
 /// those that call one another.
 #[inline(never)]
 fn write_text<W: Write>(f: &mut Formatter<W>, text: &str) -> fmt::Result {

@@ -7,7 +7,7 @@
 //! ```rust
 //! let lines = pointed_lines(alloc, text, &fault)?;
 //! let sentence = fault.expected;
-//! format!(in alloc; "{sentence}\n{lines}")
+//! Ok(format!(in alloc; "{sentence}\n{lines}")?)
 //! ```
 #![tactic(auto)]
 

@@ -1,4 +1,4 @@
-pub mod ChoicesLemmas
+pub mod PlanOptionsLemmas
 pub mod LineLemmas
 pub mod OpeningLemmas
 pub mod ReplyLemmas

@@ -69,28 +69,28 @@ nothing_printed report sink sink' result memory same = subst (λ r. PrintsTellin
 
 module _ (form : Option Form) (because : Cause) (sink sink' : SinkValue) (result : Result ℕ RunFault) where
   pub told_nothing : form ≡ None → Prints (silence (cause_status because)) sink sink' result
-      → PrintsTelling (λ told. refusal_report form told because) sink sink' result
-  told_nothing none prints = subst (λ f. PrintsTelling (λ told. refusal_report f told because) sink sink' result) (sym none) (None, prints)
+      → PrintsTelling (λ diagnostic. refusal_report form diagnostic because) sink sink' result
+  told_nothing none prints = subst (λ f. PrintsTelling (λ diagnostic. refusal_report f diagnostic because) sink sink' result) (sym none) (None, prints)
 
-  pub told_in_form : (shown : Form) → form ≡ Some shown → PrintsTelling (λ told. cause_report shown told because) sink sink' result
-      → PrintsTelling (λ told. refusal_report form told because) sink sink' result
-  told_in_form shown some prints = subst (λ f. PrintsTelling (λ told. refusal_report f told because) sink sink' result) (sym some) prints
+  pub told_in_form : (shown : Form) → form ≡ Some shown → PrintsTelling (λ diagnostic. cause_report shown diagnostic because) sink sink' result
+      → PrintsTelling (λ diagnostic. refusal_report form diagnostic because) sink sink' result
+  told_in_form shown some prints = subst (λ f. PrintsTelling (λ diagnostic. refusal_report f diagnostic because) sink sink' result) (sym some) prints
 
 pub ruleset refusals = (told_nothing, told_in_form)
 
 -- what is printed of a refusal is what is printed in place of the answer
 pub refused : {V : Type 0} (form given : Option Form) (report : V → Report) (definition : Result V Cause) (because : Cause)
     (sink sink' : SinkValue) (result : Result ℕ RunFault) → given ≡ form
-    → PrintsTelling (λ told. refusal_report given told because) sink sink' result
+    → PrintsTelling (λ diagnostic. refusal_report given diagnostic because) sink sink' result
     → (is_memory because ≡ true → (result ≡ Err fault.Memory) × (sink' ≡ sink))
     → ((because ≡ out_of_memory → ⊥) → definition ≡ Err because)
-    → PrintsTelling (λ told. report_or_refusal form told report definition) sink sink' result
+    → PrintsTelling (λ diagnostic. report_or_refusal form diagnostic report definition) sink sink' result
 refused form given report definition because sink sink' result same prints memory gives = by (is_memory because) refl
   where
-    by : (b : Bool) → is_memory because ≡ b → PrintsTelling (λ told. report_or_refusal form told report definition) sink sink' result
-    by false not = subst (λ d. PrintsTelling (λ told. report_or_refusal form told report d) sink sink' result)
+    by : (b : Bool) → is_memory because ≡ b → PrintsTelling (λ diagnostic. report_or_refusal form diagnostic report definition) sink sink' result
+    by false not = subst (λ d. PrintsTelling (λ diagnostic. report_or_refusal form diagnostic report d) sink sink' result)
         (sym (gives (other because not)))
-        (subst (λ f. PrintsTelling (λ told. refusal_report f told because) sink sink' result) same prints)
+        (subst (λ f. PrintsTelling (λ diagnostic. refusal_report f diagnostic because) sink sink' result) same prints)
     by true is = nothing_printed _ sink sink' result (memory is).0 (memory is).1
 
 -- ---- runs
@@ -119,7 +119,7 @@ module _ (form : Form) (opened : Result State Unopened)
       by (Ok begins) same = subst (λ s. RunOn (Ok s)) (sym (ap (λ r. result_unwrap_or r begins) same)) run
       by (Err unopened) same = absurd (false≢true (sym (ap is_err same)))
 
-  pub refused_runs : (because : Cause) → PrintsTelling (λ told. refusal_report (Some form) told because) sink sink' result
+  pub refused_runs : (because : Cause) → PrintsTelling (λ diagnostic. refusal_report (Some form) diagnostic because) sink sink' result
       → (is_memory because ≡ true → (result ≡ Err fault.Memory) × (sink' ≡ sink))
       → ((because ≡ out_of_memory → ⊥) → as_caused opened ≡ Err because) → source' ≡ source → RunOn opened
   refused_runs because prints memory gives unread = by opened (is_memory because) refl gives
@@ -130,7 +130,7 @@ module _ (form : Form) (opened : Result State Unopened)
           (subst (λ s. IsRunOn form begins source s sink sink (Err fault.Memory)) (sym unread) (memory_runs begins)))
       by (Ok state) false not given = absurd (false≢true (ap is_err (given (other because not))))
       by (Err unopened) false not given = (
-        subst (λ c. PrintsTelling (λ told. refusal_report (Some form) told c) sink sink' result)
+        subst (λ c. PrintsTelling (λ diagnostic. refusal_report (Some form) diagnostic c) sink sink' result)
             (sym (ap (cause_in because) (given (other because not)))) prints,
         unread,
       )
@@ -139,18 +139,18 @@ pub ruleset runs = (session_runs, refused_runs)
 
 -- ---- a strict plan is the plan
 
-module _ (question : Question) (told : Option DiagnosticValue) (lock : List ℕ) (environment : EnvironmentRead) where
+module _ (question : Question) (diagnostic : Option DiagnosticValue) (lock : List ℕ) (environment : EnvironmentRead) where
   abbrev report_found : List LockFindingValue → Report
   report_found found =
-      report_or_refusal (output_form question.output) told (output_report question.output)
-      (result_map_both (λ state. state) cause.Unopened (open_unless found (state_in lock environment)) >>= chosen_state question.choices.items)
+      report_or_refusal (output_form question.output) diagnostic (output_report question.output)
+      (result_map_both (λ state. state) cause.Unopened (open_unless found (state_in lock environment)) >>= chosen_state question.options.items)
 
   pub taken_plan : strict_findings_of lock ≡ []
-      → question_report (with_strict true question) told lock environment ≡ question_report (with_strict false question) told lock environment
+      → question_report (with_strict true question) diagnostic lock environment ≡ question_report (with_strict false question) diagnostic lock environment
   taken_plan none = ap report_found none
 
   refused_status : (form : Option Form) (found : List LockFindingValue)
-      → (refusal_report form told (cause.Unopened (Findings found))).status ≡ 2
+      → (refusal_report form diagnostic (cause.Unopened (Findings found))).status ≡ 2
   refused_status None found = refl
   refused_status (Some form) found = refl
 
@@ -158,8 +158,8 @@ module _ (question : Question) (told : Option DiagnosticValue) (lock : List ℕ)
   answered [] differs = refl
   answered (one ∷ others) differs = absurd (differs (refused_status (output_form question.output) (one ∷ others)))
 
-  pub answered_plan : (question_report (with_strict true question) told lock environment).status ≢ 2
-      → question_report (with_strict true question) told lock environment ≡ question_report (with_strict false question) told lock environment
+  pub answered_plan : (question_report (with_strict true question) diagnostic lock environment).status ≢ 2
+      → question_report (with_strict true question) diagnostic lock environment ≡ question_report (with_strict false question) diagnostic lock environment
   answered_plan differs = answered (strict_findings_of lock) differs
 
 pub ruleset laws = (taken_plan, answered_plan)

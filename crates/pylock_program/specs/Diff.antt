@@ -2,7 +2,7 @@
 use Rattle.std.specs.Prelude.{ℕ, List, Option, Some, Result, Ok}
 use Rattle.std.specs.Result.{result_map_both}
 use Rattle.pytext.specs.Results.{◌>>=◌}
-use Rattle.pylock_command.specs.declared.choice.Choice.{Choice}
+use Rattle.pylock_command.specs.declared.option.PlanOption.{PlanOption}
 use Rattle.pylock_command.specs.declared.form.Form.{Form}
 use Rattle.pylock_command.specs.declared.form.Form.TheVariants.{Lines, Json}
 use Rattle.pylock_core.specs.Session.State.{State, first}
@@ -48,30 +48,31 @@ both_of old new = do
 
 -- `diff OLD NEW`, from the bytes of both
 abbrev pub locks_report : Form → Option DiagnosticValue → List ℕ → List ℕ → Report
-locks_report form told old new =
-    report_or_refusal (Some form) told (λ both. changes_report form (lock_changes both.0 both.1))
+locks_report form diagnostic old new =
+    report_or_refusal (Some form) diagnostic
+    (λ both. changes_report form (lock_changes both.0 both.1))
     (both_of (compared_of old) (compared_of new))
 
 -- both states after the options, or the first option that is refused
-abbrev pub both_chosen : List Choice → State × State → Result (State × State) Cause
-both_chosen choices both = do
-  old ← chosen_state choices both.0
-  new ← chosen_state choices both.1
+abbrev pub both_chosen : List PlanOption → State × State → Result (State × State) Cause
+both_chosen options both = do
+  old ← chosen_state options both.0
+  new ← chosen_state options both.1
   Ok (old, new)
 
 -- the states of both locks after the options, in an environment as it was read: both locks are
 -- judged before the environment, and that before an option
-abbrev pub plans_state : List Choice → List ℕ → List ℕ → EnvironmentRead
+abbrev pub plans_state : List PlanOption → List ℕ → List ℕ → EnvironmentRead
     → Result (State × State) Cause
-plans_state choices old new read = do
+plans_state options old new read = do
   locks ← both_of (lock_of old) (lock_of new)
   environment ← environment_of read
-  both_chosen choices
+  both_chosen options
       (first locks.0 environment.0 environment.1, first locks.1 environment.0 environment.1)
 
-abbrev pub plans_report : Form → Option DiagnosticValue → List Choice → List ℕ → List ℕ
+abbrev pub plans_report : Form → Option DiagnosticValue → List PlanOption → List ℕ → List ℕ
     → EnvironmentRead → Report
-plans_report form told choices old new read =
-    report_or_refusal (Some form) told
+plans_report form diagnostic options old new read =
+    report_or_refusal (Some form) diagnostic
     (λ both. changes_report form (answer_changes both.0 both.1 (answer both.0) (answer both.1)))
-    (plans_state choices old new read)
+    (plans_state options old new read)

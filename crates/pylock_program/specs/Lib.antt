@@ -3,7 +3,7 @@ pub mod Findings
 pub mod Refusal
 pub mod Opening
 pub mod Reply
-pub mod Choices
+pub mod PlanOptions
 pub mod Show
 pub mod Diff
 pub mod Exports

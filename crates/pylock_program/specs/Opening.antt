@@ -5,7 +5,7 @@ use Rattle.std.specs.Result.{result_map_both}
 use Rattle.pytext.specs.Results.{◌>>=◌}
 use Rattle.pylock_audit.specs.Finding.{LockFindingValue}
 use Rattle.pylock_audit.specs.Strict.{strict_findings_of}
-use Rattle.pylock_command.specs.declared.choice.Choice.{Choice}
+use Rattle.pylock_command.specs.declared.option.PlanOption.{PlanOption}
 use Rattle.pylock_command.specs.declared.task.Question.{Question}
 use Rattle.pylock_core.specs.Session.State.{State}
 use Rattle.pymark_core.specs.Environment.{EnvironmentValue}
@@ -14,7 +14,7 @@ use Rattle.pylock_readers.specs.Environment.{EnvironmentRead}
 use Rattle.pylock_run.specs.Report.{state_in}
 use Rattle.pylock_run.specs.declared.report.opening.OpenError.{OpenError}
 use Rattle.pylock_run.specs.declared.report.opening.OpenError.TheVariants.{Environment}
-use Rattle.pylock_program.specs.Choices.{after_choices}
+use Rattle.pylock_program.specs.PlanOptions.{after_options}
 use Rattle.pylock_program.specs.declared.opening.Unopened.{Unopened}
 use Rattle.pylock_program.specs.declared.opening.Unopened.TheVariants.{Findings, Refused}
 use Rattle.pylock_program.specs.declared.refusal.Cause.{Cause}
@@ -44,12 +44,12 @@ environment_of read =
     result_map_both (λ e. e) (λ error. cause.Unopened (Refused (Environment error))) read
 
 -- the state after the options, or the first that is refused
-abbrev pub chosen_state : List Choice → State → Result State Cause
-chosen_state choices state =
-    result_map_both (λ state. state) cause.Option (after_choices choices state)
+abbrev pub chosen_state : List PlanOption → State → Result State Cause
+chosen_state options state =
+    result_map_both (λ state. state) cause.Option (after_options options state)
 
 -- the state that a question asks for
 abbrev pub question_state : Question → List ℕ → EnvironmentRead → Result State Cause
 question_state question lock read =
     result_map_both (λ state. state) cause.Unopened (opened_by question.opening.strict lock read)
-    >>= chosen_state question.choices.items
+    >>= chosen_state question.options.items

@@ -90,7 +90,7 @@ abbrev pub IsRunOn : Form → Result State Unopened → SourceValue → SourceVa
 IsRunOn form (Ok state) source source' sink sink' result =
     IsRunShown (run_shown form) (Ok state) source source' sink sink' result
 IsRunOn form (Err unopened) source source' sink sink' result =
-    PrintsTelling (λ told. refusal_report (Some form) told (cause.Unopened unopened))
+    PrintsTelling (λ diagnostic. refusal_report (Some form) diagnostic (cause.Unopened unopened))
     sink sink' result
     × (source' ≡ source)
 
@@ -135,9 +135,11 @@ Greets source source' sink sink' result =
 
 -- two locks are compared, or what they install on a machine
 abbrev pub Compares : Reads → Form → Option Installation → List ℕ → List ℕ → Outcome
-Compares gives form None old new = RepliesTelling (λ told. locks_report form told old new)
+Compares gives form None old new =
+    RepliesTelling (λ diagnostic. locks_report form diagnostic old new)
 Compares gives form (Some asked) old new = OpensMachine gives asked.machine
-    (λ read. RepliesTelling (λ told. plans_report form told asked.choices.items old new read))
+    (λ read. RepliesTelling
+    (λ diagnostic. plans_report form diagnostic asked.options.items old new read))
 
 -- What the program does with each task, by what reads of files may give. `select`, `plan` and
 -- `explain` read the lock first, and then the environment.
@@ -145,20 +147,22 @@ abbrev pub Performs : Reads → Task → Outcome
 Performs gives task.Bare = Greets
 Performs gives (task.Show question) =
     Opens gives question.opening.lock.now (λ lock. OpensMachine gives question.opening.machine
-    (λ read. RepliesTelling (λ told. question_report question told lock read)))
+    (λ read. RepliesTelling (λ diagnostic. question_report question diagnostic lock read)))
 Performs gives (task.Select opening form) =
     Opens gives opening.lock.now (λ lock. OpensMachine gives opening.machine
     (Runs opening.strict form lock))
 Performs gives (task.Files lock output) =
-    Opens gives lock.now (λ bytes. RepliesTelling (λ told. files_report output told bytes))
+    Opens gives lock.now
+    (λ bytes. RepliesTelling (λ diagnostic. files_report output diagnostic bytes))
 Performs gives (task.Audit lock form) =
-    Opens gives lock.now (λ bytes. RepliesTelling (λ told. audit_report form told bytes))
+    Opens gives lock.now
+    (λ bytes. RepliesTelling (λ diagnostic. audit_report form diagnostic bytes))
 Performs gives (task.Diff asked) =
     Opens gives asked.old.now (λ old. Opens gives asked.new.now
     (λ new. Compares gives asked.form asked.installation old new))
 Performs gives (task.Environment target) =
-    RepliesTelling (λ told. target_report told target.python.now target.platform.now)
+    RepliesTelling (λ diagnostic. target_report diagnostic target.python.now target.platform.now)
 Performs gives (task.Marker text machine form) =
     OpensMachine gives machine
-    (λ read. RepliesTelling (λ told. marker_report form told text.now read))
+    (λ read. RepliesTelling (λ diagnostic. marker_report form diagnostic text.now read))
 Performs gives (task.Text question form) = Replies (text_report question form)

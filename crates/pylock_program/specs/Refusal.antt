@@ -4,8 +4,8 @@ use Rattle.std.specs.Prelude.{ℕ, Bool, true, false, List, [], ◌∷◌, codes
 use Rattle.std.specs.Prelude.{Result, Ok, Err}
 use Rattle.std.specs.Result.{result_map_both}
 use Rattle.pytext.specs.Agreement.{Gives}
-use Rattle.pylock_command.specs.Choices.{option_words}
-use Rattle.pylock_command.specs.declared.choice.Choice.{Choice}
+use Rattle.pylock_command.specs.PlanOptions.{option_words}
+use Rattle.pylock_command.specs.declared.option.PlanOption.{PlanOption}
 use Rattle.pylock_command.specs.declared.form.Form.{Form}
 use Rattle.pylock_command.specs.declared.form.Form.TheVariants.{Lines, Json}
 use Rattle.pylock_messages.specs.Diagnostic.{DiagnosticValue}
@@ -36,39 +36,39 @@ refused_shown Json word = words_json (word ∷ []) None
 -- ---- why there is no answer, and what is told of that
 
 -- a refused lock or environment
-abbrev pub refusal_told : Form → Option DiagnosticValue → OpenError → List ℕ
-refusal_told Lines told refusal = refusal_text refusal
-refusal_told Json told refusal = refusal_json refusal told
+abbrev pub refusal_printed : Form → Option DiagnosticValue → OpenError → List ℕ
+refusal_printed Lines diagnostic refusal = refusal_text refusal
+refusal_printed Json diagnostic refusal = refusal_json refusal diagnostic
 
 -- why there is no session
-abbrev pub unopened_told : Form → Option DiagnosticValue → Unopened → List ℕ
-unopened_told form told (Findings found) = findings_shown form found
-unopened_told form told (Refused refusal) = refusal_told form told refusal
+abbrev pub unopened_printed : Form → Option DiagnosticValue → Unopened → List ℕ
+unopened_printed form diagnostic (Findings found) = findings_shown form found
+unopened_printed form diagnostic (Refused refusal) = refusal_printed form diagnostic refusal
 
 -- a refused lock, of which `old` or `new` tells which of two it is
 abbrev pub side_word : LockSide → List ℕ
 side_word Old = codes "old"
 side_word New = codes "new"
 
-abbrev pub side_told : Form → Option DiagnosticValue → LockSide → LockError → List ℕ
-side_told Lines told side error = side_text (side_word side) error
-side_told Json told side error =
-    words_json (codes "lock" ∷ side_word side ∷ lock_words error) told
+abbrev pub side_printed : Form → Option DiagnosticValue → LockSide → LockError → List ℕ
+side_printed Lines diagnostic side error = side_text (side_word side) error
+side_printed Json diagnostic side error =
+    words_json (codes "lock" ∷ side_word side ∷ lock_words error) diagnostic
 
 -- an option that is refused: its word, without the dashes, and its text
-abbrev pub option_told : Form → Option DiagnosticValue → Choice → List ℕ
-option_told Lines told choice =
-    line_of (codes "refused") ((option_words choice).0 ∷ field (option_words choice).1 ∷ [])
-option_told Json told choice = option_json choice told
+abbrev pub option_printed : Form → Option DiagnosticValue → PlanOption → List ℕ
+option_printed Lines diagnostic option =
+    line_of (codes "refused") ((option_words option).0 ∷ field (option_words option).1 ∷ [])
+option_printed Json diagnostic option = option_json option diagnostic
 
-abbrev pub cause_told : Form → Option DiagnosticValue → Cause → List ℕ
-cause_told form told (cause.Unopened unopened) = unopened_told form told unopened
-cause_told form told (cause.Side side error) = side_told form told side error
-cause_told form told (cause.Option choice) = option_told form told choice
+abbrev pub cause_printed : Form → Option DiagnosticValue → Cause → List ℕ
+cause_printed form diagnostic (cause.Unopened unopened) = unopened_printed form diagnostic unopened
+cause_printed form diagnostic (cause.Side side error) = side_printed form diagnostic side error
+cause_printed form diagnostic (cause.Option option) = option_printed form diagnostic option
 
 -- 1: an option is refused
 abbrev pub cause_status : Cause → ℕ
-cause_status (cause.Option choice) = 1
+cause_status (cause.Option option) = 1
 cause_status other = 2
 
 -- ---- what is printed
@@ -78,25 +78,25 @@ abbrev pub silence : ℕ → Report
 silence status = record { text = []; status = status }
 
 abbrev pub cause_report : Form → Option DiagnosticValue → Cause → Report
-cause_report form told because =
-    record { text = cause_told form told because; status = cause_status because }
+cause_report form diagnostic because =
+    record { text = cause_printed form diagnostic because; status = cause_status because }
 
 -- a refusal in a form; where the answer would be for another tool, nothing stands in its place
 abbrev pub refusal_report : Option Form → Option DiagnosticValue → Cause → Report
-refusal_report (Some form) told because = cause_report form told because
-refusal_report None told because = silence (cause_status because)
+refusal_report (Some form) diagnostic because = cause_report form diagnostic because
+refusal_report None diagnostic because = silence (cause_status because)
 
 -- what is printed of an answer, or in its place
 abbrev pub report_or_refusal : {V : Type 0} → Option Form → Option DiagnosticValue → (V → Report)
     → Result V Cause → Report
-report_or_refusal form told report (Ok answer) = report answer
-report_or_refusal form told report (Err because) = refusal_report form told because
+report_or_refusal form diagnostic report (Ok answer) = report answer
+report_or_refusal form diagnostic report (Err because) = refusal_report form diagnostic because
 
 -- A report is printed that may tell more of a refusal than its words; what it tells is left open.
 abbrev pub PrintsTelling : (Option DiagnosticValue → Report) → SinkValue → SinkValue
     → Result ℕ RunFault → Type 0
 PrintsTelling report sink sink' result =
-    (told : Option DiagnosticValue) × Prints (report told) sink sink' result
+    (diagnostic : Option DiagnosticValue) × Prints (report diagnostic) sink sink' result
 
 -- ---- what a call gives that may be refused
 

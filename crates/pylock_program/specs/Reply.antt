@@ -254,8 +254,8 @@ abbrev pub marker_answer : Form → List ℕ → EnvironmentRead → Result Repo
 marker_answer form text read = marker_answer_of form read (marker_of text)
 
 abbrev pub marker_report : Form → Option DiagnosticValue → List ℕ → EnvironmentRead → Report
-marker_report form told text read =
-    report_or_refusal (Some form) told (λ report. report) (marker_answer form text read)
+marker_report form diagnostic text read =
+    report_or_refusal (Some form) diagnostic (λ report. report) (marker_answer form text read)
 
 -- `environment --python PYTHON --platform PLATFORM`: the text of the target's environment
 abbrev pub target_answer_of : Result TargetValue TargetError → Result (List ℕ) Cause
@@ -266,8 +266,8 @@ abbrev pub target_answer : List ℕ → List ℕ → Result (List ℕ) Cause
 target_answer python platform = target_answer_of (target_of python platform)
 
 abbrev pub target_report : Option DiagnosticValue → List ℕ → List ℕ → Report
-target_report told python platform =
-    report_or_refusal (Some Lines) told answered (target_answer python platform)
+target_report diagnostic python platform =
+    report_or_refusal (Some Lines) diagnostic answered (target_answer python platform)
 
 -- what is read of a lock, or the refusal of the lock
 abbrev pub read_or_refused : {V : Type 0} → Result V LockError → Result V Cause
@@ -289,14 +289,15 @@ files_form (output.Shown form) = Some form
 files_form (output.Tool format) = None
 
 abbrev pub files_report : FilesOutput → Option DiagnosticValue → List ℕ → Report
-files_report output told bytes =
-    report_or_refusal (files_form output) told (λ lock. entries_report output lock.entries)
+files_report output diagnostic bytes =
+    report_or_refusal (files_form output) diagnostic (λ lock. entries_report output lock.entries)
     (read_or_refused (lock_of bytes))
 
 -- `audit LOCK`: what a careful reader would want to be told; status 1 where that is something
 abbrev pub audit_report : Form → Option DiagnosticValue → List ℕ → Report
-audit_report form told bytes =
-    report_or_refusal (Some form) told (findings_report form) (read_or_refused (findings_of bytes))
+audit_report form diagnostic bytes =
+    report_or_refusal (Some form) diagnostic (findings_report form)
+    (read_or_refused (findings_of bytes))
 
 -- ---- answers on a text
 

@@ -16,7 +16,7 @@ use Rattle.pylock_run.specs.Report.{Report, Shown, as_lines, current_answer_text
 use Rattle.pylock_run.specs.declared.report.opening.OpenError.{OpenError}
 use Rattle.pylock_program.specs.Exports.{answer_exported}
 use Rattle.pylock_program.specs.Opening.{question_state}
-use Rattle.pylock_program.specs.Refusal.{refusal_told, report_or_refusal}
+use Rattle.pylock_program.specs.Refusal.{refusal_printed, report_or_refusal}
 use Rattle.pylock_program.specs.Text.Explain.{explain_text}
 use Rattle.pylock_program.specs.Text.Json.{json_text, line_refusal_json, refusal_json}
 
@@ -43,7 +43,7 @@ view_report view form state = record {
 abbrev pub opened_report : View → Form → Result State OpenError → Report
 opened_report view form (Ok state) = view_report view form state
 opened_report view form (Err refusal) =
-    record { text = refusal_told form None refusal; status = 2 }
+    record { text = refusal_printed form None refusal; status = 2 }
 
 -- ---- runs
 
@@ -74,8 +74,8 @@ output_form (output.Tool format) = None
 -- The report on a question, from what is told of a refusal, from the bytes of its lock and from its
 -- environment as it was read.
 abbrev pub question_report : Question → Option DiagnosticValue → List ℕ → EnvironmentRead → Report
-question_report question told lock read =
-    report_or_refusal (output_form question.output) told (output_report question.output)
+question_report question diagnostic lock read =
+    report_or_refusal (output_form question.output) diagnostic (output_report question.output)
     (question_state question lock read)
 
 -- the same question with or without `--strict`

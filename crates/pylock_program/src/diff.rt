@@ -21,7 +21,7 @@ use crate::host::{Host, Outputs};
 use crate::opening::{choose, read_environment};
 use crate::refusal::{Refusal, Side, write_refusal};
 use crate::text::diff::write_changes;
-use pylock_command::{Choice, Comparison, Form, Installation};
+use pylock_command::{Comparison, Form, Installation, PlanOption};
 use pylock_core::{Lock, LockError, Session};
 use pylock_diff::{Compared, lock_changes, plan_changes, read_compared};
 use pylock_run::{Files, RunFault, Sink, Source};
@@ -88,7 +88,8 @@ fn write_lock_diff<W: Sink, N: Sink>(
     sides: Sides<'_>,
     outputs: &mut Outputs<W, N>,
 ) -> Result<u8, RunFault>
-    ensures { PrintsTelling (λ told. locks_report form told sides.entry.old.now.bytes.items
+    ensures { PrintsTelling (λ diagnostic. locks_report form diagnostic
+        sides.entry.old.now.bytes.items
         sides.entry.new.now.bytes.items)
         (W.value outputs.old.writer) (W.value outputs.new.writer) result }
 {
@@ -141,7 +142,7 @@ fn write_locks<W: Sink>(
 struct Plans<'a> {
     sides: Sides<'a>,
     machine: &'a MachineInput<'a>,
-    choices: &'a [Choice<'a>],
+    options: &'a [PlanOption<'a>],
 }
 
 /// Answers `diff` on what two locks that were read install.
@@ -153,7 +154,8 @@ fn compare_plans<F: Files, R: Source, W: Sink, N: Sink>(
     host: &mut Host<F, R, W, N>,
 ) -> Result<u8, Failure>
     ensures { OpensMachine (F.read_gives host.old.files) installation.now.machine
-        (λ read. RepliesTelling (λ told. plans_report form told installation.now.choices.items
+        (λ read. RepliesTelling (λ diagnostic. plans_report form diagnostic
+        installation.now.options.items
         sides.entry.old.now.bytes.items sides.entry.new.now.bytes.items read))
         (R.value host.old.reader) (R.value host.new.reader)
         (W.value host.old.outputs.writer) (W.value host.new.outputs.writer) result }
@@ -162,7 +164,7 @@ fn compare_plans<F: Files, R: Source, W: Sink, N: Sink>(
     let plans = Plans {
         sides,
         machine: &machine,
-        choices: &installation.choices,
+        options: &installation.options,
     };
     program_end(write_plan_diff(alloc, form, plans, &mut host.outputs))
 }
@@ -177,7 +179,7 @@ fn write_plan_diff<W: Sink, N: Sink>(
     plans: Plans<'_>,
     outputs: &mut Outputs<W, N>,
 ) -> Result<u8, RunFault>
-    ensures { PrintsTelling (λ told. plans_report form told plans.entry.choices.now
+    ensures { PrintsTelling (λ diagnostic. plans_report form diagnostic plans.entry.options.now
         plans.entry.sides.old.now.bytes.items plans.entry.sides.new.now.bytes.items
         (machine_read plans.entry.machine.now))
         (W.value outputs.old.writer) (W.value outputs.new.writer) result }
@@ -192,7 +194,7 @@ fn write_plan_diff<W: Sink, N: Sink>(
 /// that before an option.
 fn open_both<'a>(alloc: Global, plans: Plans<'a>) -> Result<(Session, Session), Refusal<'a>>
     ensures { GivesOr (λ both. (both.0.state, both.1.state)) result
-        (plans_state plans.entry.choices.now plans.entry.sides.old.now.bytes.items
+        (plans_state plans.entry.options.now plans.entry.sides.old.now.bytes.items
         plans.entry.sides.new.now.bytes.items (machine_read plans.entry.machine.now)) }
 {
     let old = lock_on(alloc, Side::Old, plans.sides.old)?;
@@ -200,7 +202,7 @@ fn open_both<'a>(alloc: Global, plans: Plans<'a>) -> Result<(Session, Session), 
     let (environment, tags) = read_environment(alloc, plans.machine)?;
     let sessions = start_both(alloc, (old, new), environment, tags)?;
     let paths = (plans.sides.old.path, plans.sides.new.path);
-    choose_both(alloc, sessions, plans.choices, paths)
+    choose_both(alloc, sessions, plans.options, paths)
 }
 
 /// Makes the edits of the options on the old session, and then on the new one. `paths` are those of
@@ -208,15 +210,15 @@ fn open_both<'a>(alloc: Global, plans: Plans<'a>) -> Result<(Session, Session), 
 fn choose_both<'a>(
     alloc: Global,
     sessions: (Session, Session),
-    choices: &[Choice<'a>],
+    options: &[PlanOption<'a>],
     paths: (&str, &str),
 ) -> Result<(Session, Session), Refusal<'a>>
     ensures { GivesOr (λ both. (both.0.state, both.1.state)) result
-        (both_chosen choices.now (sessions.0.state, sessions.1.state)) }
+        (both_chosen options.now (sessions.0.state, sessions.1.state)) }
 {
     let (mut old, mut new) = sessions;
-    choose(alloc, &mut old, choices, paths.0)?;
-    choose(alloc, &mut new, choices, paths.1)?;
+    choose(alloc, &mut old, options, paths.0)?;
+    choose(alloc, &mut new, options, paths.1)?;
     Ok((old, new))
 }
 

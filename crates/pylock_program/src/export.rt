@@ -8,9 +8,9 @@ ghost use Rattle.pylock_exports.specs.declared.refusal.ExportError.TheVariants a
 ghost use Rattle.pylock_program.specs.Exports.{answer_exported, entries_exported, exported};
 ghost use Rattle.pylock_run.specs.Report.Print.{Prints};
 
+use crate::diagnostics::export::{tell_exported, tell_refused_export};
+use crate::diagnostics::tell_bytes;
 use crate::host::Outputs;
-use crate::notes::export::{tell_exported, tell_refused_export};
-use crate::notes::tell_bytes;
 use pylock_command::{FileFormat, PlanFormat};
 use pylock_core::{Answer, Entry, Session};
 use pylock_exports::{ExportError, Exported, export_files, export_plan};
@@ -33,13 +33,13 @@ pub(crate) fn write_plan_export<W: Sink, N: Sink>(
         Answer::Plan(plan) => {
             let made = export_plan(alloc, form, session, plan);
             let name = refused_number(&made).and_then(|number| name_in(session, number));
-            tell_made(alloc, &mut outputs.notes, form, name, &made);
+            tell_made(alloc, &mut outputs.diagnostics, form, name, &made);
             print_made(&made, &mut outputs.writer)
         }
         Answer::Fault { .. } => {
             let mut line = Vec::new(alloc);
             push_answer(&mut line, session, answer)?;
-            tell_bytes(&mut outputs.notes, &line);
+            tell_bytes(&mut outputs.diagnostics, &line);
             print(&[], 1, &mut outputs.writer)
         }
     }
@@ -59,7 +59,7 @@ pub(crate) fn write_files_export<W: Sink, N: Sink>(
     let name = refused_number(&made).and_then(|number| name_among(entries, number));
     tell_made(
         alloc,
-        &mut outputs.notes,
+        &mut outputs.diagnostics,
         PlanFormat::Files(form),
         name,
         &made,
@@ -103,15 +103,15 @@ fn name_among(entries: &[Entry], number: u64) -> Option<&str> {
 /// Tells what a form leaves out, or why it can't hold what is asked for.
 fn tell_made<N: Sink>(
     alloc: Global,
-    notes: &mut N,
+    diagnostics: &mut N,
     form: PlanFormat,
     name: Option<&str>,
     made: &Result<Exported, ExportError>,
 ) {
     match made {
-        Ok(made) => tell_exported(alloc, notes, form, made),
+        Ok(made) => tell_exported(alloc, diagnostics, form, made),
         Err(ExportError::Refused(refusal)) => {
-            tell_refused_export(alloc, notes, form, name, refusal);
+            tell_refused_export(alloc, diagnostics, form, name, refusal);
         }
         Err(ExportError::Memory) => {}
     }

@@ -6,9 +6,9 @@ ghost use Rattle.pylock_program.specs.Inner.Machine.{machine_read};
 ghost use Rattle.pylock_program.specs.Paths.{IsMachineRead, IsRead, IsReadAs};
 ghost use Rattle.pylock_readers.specs.Input.{input_env_of};
 
+use crate::diagnostics::tell_file;
 use crate::failure::Failure;
 use crate::host::Host;
-use crate::notes::tell_file;
 use pylock_command::{Machine, TargetWords};
 use pylock_core::EnvironmentInput;
 use pylock_run::{FileFault, Files, Sink, Source, read_file};
@@ -85,7 +85,7 @@ pub(crate) fn read_bytes<'a, F: Files, R: Source, W: Sink, N: Sink>(
         Ok(bytes) => Ok(FileBytes { path, bytes }),
         Err(FileFault::Memory) => Err(Failure::Memory),
         Err(fault) => {
-            tell_file(alloc, &mut host.outputs.notes, path, fault);
+            tell_file(alloc, &mut host.outputs.diagnostics, path, fault);
             Err(Failure::File)
         }
     }

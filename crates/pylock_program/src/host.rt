@@ -19,5 +19,5 @@ pub struct Outputs<W, N> {
     /// Standard output.
     pub writer: W,
     /// Standard error. What can't be written there is left out.
-    pub notes: N,
+    pub diagnostics: N,
 }

@@ -12,14 +12,14 @@ ghost use Rattle.pylock_program.specs.Show.{question_report, with_strict};
 /// another status than 2 is what they print without it.
 #[tactic(auto, using(crate::proofs::OpeningLemmas::laws))]
 pub fn strict_plan()
-    ensures taken { (question : QuestionValue) (told : Option DiagnosticValue)
+    ensures taken { (question : QuestionValue) (diagnostic : Option DiagnosticValue)
         (lock : List ℕ) (environment : EnvironmentRead)
         → strict_findings_of lock ≡ []
-        → question_report (with_strict true question) told lock environment
-        ≡ question_report (with_strict false question) told lock environment }
-    ensures answered { (question : QuestionValue) (told : Option DiagnosticValue)
+        → question_report (with_strict true question) diagnostic lock environment
+        ≡ question_report (with_strict false question) diagnostic lock environment }
+    ensures answered { (question : QuestionValue) (diagnostic : Option DiagnosticValue)
         (lock : List ℕ) (environment : EnvironmentRead)
-        → (question_report (with_strict true question) told lock environment).status ≢ 2
-        → question_report (with_strict true question) told lock environment
-        ≡ question_report (with_strict false question) told lock environment }
+        → (question_report (with_strict true question) diagnostic lock environment).status ≢ 2
+        → question_report (with_strict true question) diagnostic lock environment
+        ≡ question_report (with_strict false question) diagnostic lock environment }
 {}

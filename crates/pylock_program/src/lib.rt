@@ -8,7 +8,7 @@
 //! ```
 #![tactic(auto)]
 
-mod choices;
+mod diagnostics;
 mod diff;
 mod export;
 mod failure;
@@ -16,8 +16,8 @@ mod file;
 mod host;
 pub mod laws;
 mod lines;
-mod notes;
 mod opening;
+mod options;
 mod printing;
 mod program;
 mod refusal;

@@ -14,13 +14,13 @@ ghost use Rattle.pylock_program.specs.declared.opening.Unopened.TheVariants as u
 ghost use Rattle.pylock_program.specs.declared.refusal.Cause.TheVariants as cause;
 ghost use Rattle.pylock_run.specs.declared.report.opening.OpenError.TheVariants as refusal;
 
-use crate::choices::make_choices;
+use crate::diagnostics::options::{NamedLock, option_diagnostic};
+use crate::diagnostics::refusal::unopened_diagnostic;
 use crate::file::{Inputs, MachineInput};
-use crate::notes::options::{NamedLock, option_diagnostic};
-use crate::notes::refusal::unopened_told;
+use crate::options::make_options;
 use crate::refusal::{Cause, Refusal};
 use pylock_audit::{Findings, StrictError, read_strict};
-use pylock_command::{Choice, Question};
+use pylock_command::{PlanOption, Question};
 use pylock_core::{EnvError, EnvironmentInput, Session};
 use pylock_run::{OpenError, open_in, open_on};
 use pymark_core::Environment;
@@ -86,7 +86,7 @@ fn open_by(
     }
 }
 
-/// The same of what was read, where a refusal knows what a person is told of it.
+/// The same of what was read, where a refusal has its diagnostic.
 pub(crate) fn open_inputs(
     alloc: Global,
     strict: bool,
@@ -100,9 +100,9 @@ pub(crate) fn open_inputs(
         Ok(session) => Ok(session),
         Err(Unopened::Refused(OpenError::Memory)) => Err(Refusal::of_memory()),
         Err(unopened) => {
-            let told = unopened_told(alloc, &unopened, inputs);
+            let diagnostic = unopened_diagnostic(alloc, &unopened, inputs);
             let cause = Cause::Unopened(unopened);
-            Err(Refusal { cause, told })
+            Err(Refusal { cause, diagnostic })
         }
     }
 }
@@ -131,7 +131,7 @@ pub(crate) fn open_question<'a>(
         inputs.entry.lock.now.bytes.items (machine_read inputs.entry.machine.now)) }
 {
     let mut session = open_inputs(alloc, question.opening.strict, inputs)?;
-    choose(alloc, &mut session, &question.choices, inputs.lock.path)?;
+    choose(alloc, &mut session, &question.options, inputs.lock.path)?;
     Ok(session)
 }
 
@@ -139,19 +139,19 @@ pub(crate) fn open_question<'a>(
 pub(crate) fn choose<'a>(
     alloc: Global,
     session: &mut Session,
-    choices: &[Choice<'a>],
+    options: &[PlanOption<'a>],
     path: &str,
 ) -> Result<(), Refusal<'a>>
     ensures { GivesOr (λ _. session.new.state) result
-        (chosen_state choices.now session.old.state) }
+        (chosen_state options.now session.old.state) }
 {
-    match make_choices(alloc, session, choices)? {
+    match make_options(alloc, session, options)? {
         None => Ok(()),
-        Some(choice) => {
+        Some(option) => {
             let head = session.head();
-            let told = option_diagnostic(alloc, NamedLock { path, head }, choice);
-            let cause = Cause::Option(choice);
-            Err(Refusal { cause, told })
+            let diagnostic = option_diagnostic(alloc, NamedLock { path, head }, option);
+            let cause = Cause::Option(option);
+            Err(Refusal { cause, diagnostic })
         }
     }
 }

@@ -6,10 +6,10 @@ ghost use Rattle.pylock_program.specs.Program.{Performs, Tells, greeting, termin
 ghost use Rattle.pylock_program.specs.declared.failure.Failure.TheVariants as failure;
 ghost use Rattle.pylock_run.specs.Report.Print.{Prints};
 
+use crate::diagnostics::tell_bytes;
 use crate::diff::compare;
 use crate::failure::{Failure, program_end};
 use crate::host::{Host, Outputs};
-use crate::notes::tell_bytes;
 use crate::reply::{answer_text, audit_lock, judge_marker, list_files, print_target};
 use crate::select::run_select;
 use crate::show::answer_question;
@@ -68,7 +68,7 @@ fn greet<W: Sink, N: Sink>(outputs: &mut Outputs<W, N>) -> Result<u8, Failure>
 {
     let end = program_end(print(GREETING, 0, &mut outputs.writer));
     if end.is_ok() {
-        tell_bytes(&mut outputs.notes, USAGE);
+        tell_bytes(&mut outputs.diagnostics, USAGE);
     }
     end
 }

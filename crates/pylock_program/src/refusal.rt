@@ -1,28 +1,29 @@
-//! What stands in the place of an answer: why there is none, and what a person is told of that.
+//! What stands in the place of an answer: why there is none, and the diagnostic for a person.
 
 ghost use Rattle.std.specs.Prelude.{◌≡◌, ◌++◌, Err, OnOk, true};
 ghost use Rattle.std.specs.Option.{option_copied};
 ghost use Rattle.pylock_program.specs.Findings.{findings_shown};
-ghost use Rattle.pylock_program.specs.Refusal.{PrintsTelling, cause_status, cause_told};
-ghost use Rattle.pylock_program.specs.Refusal.{is_memory, option_told, out_of_memory};
+ghost use Rattle.pylock_program.specs.Refusal.{PrintsTelling, cause_status, cause_printed};
+ghost use Rattle.pylock_program.specs.Refusal.{is_memory, option_printed, out_of_memory};
 ghost use Rattle.pylock_program.specs.Refusal.{cause_report, refusal_report, silence};
-ghost use Rattle.pylock_program.specs.Refusal.{refusal_told, side_told, side_word, unopened_told};
+ghost use Rattle.pylock_program.specs.Refusal.{refusal_printed, side_printed, side_word};
+ghost use Rattle.pylock_program.specs.Refusal.{unopened_printed};
 ghost use Rattle.pylock_program.specs.declared.refusal.Cause.TheVariants as cause;
 ghost use Rattle.pylock_program.specs.declared.opening.Unopened.TheVariants as unopened;
 ghost use Rattle.pylock_run.specs.Report.Print.{Prints};
 ghost use Rattle.pylock_run.specs.declared.report.fault.RunFault.TheVariants as fault;
 ghost use Rattle.pylock_run.specs.declared.report.opening.OpenError.TheVariants as open_error;
 
-use crate::choices::option_words;
+use crate::diagnostics::refusal::environment_refusal;
+use crate::diagnostics::{tell, tell_bytes};
 use crate::file::{FileBytes, MachineInput};
 use crate::host::Outputs;
-use crate::notes::refusal::environment_told;
-use crate::notes::{tell, tell_bytes};
 use crate::opening::Unopened;
+use crate::options::option_words;
 use crate::text::audit::push_findings;
 use crate::text::json::{push_option_json, push_refusal_json, push_words};
 use pylock_audit::{LockFinding, findings_document};
-use pylock_command::{Choice, Form};
+use pylock_command::{Form, PlanOption};
 use pylock_core::{EnvError, LockError};
 use pylock_documents::push_document;
 use pylock_messages::{Diagnostic, lock_diagnostic};
@@ -65,7 +66,7 @@ pub(crate) enum Cause<'a> {
     /// One of two locks is refused.
     Side(Side, LockError),
     /// An option is refused.
-    Option(Choice<'a>),
+    Option(PlanOption<'a>),
 }
 
 impl Cause<'_> {
@@ -88,11 +89,11 @@ impl Cause<'_> {
     }
 }
 
-/// Why there is no answer, and what a person is told of it, unless memory was refused for that.
+/// Why there is no answer, and its diagnostic, unless memory was refused for that.
 #[derive(Drop)]
 pub(crate) struct Refusal<'a> {
     pub(crate) cause: Cause<'a>,
-    pub(crate) told: Result<Option<Diagnostic>, AllocError>,
+    pub(crate) diagnostic: Result<Option<Diagnostic>, AllocError>,
 }
 
 impl<'a> From<AllocError> for Refusal<'a> {
@@ -113,7 +114,7 @@ impl<'a> Refusal<'a> {
         let cause = Cause::Unopened(Unopened::Refused(OpenError::Memory));
         Refusal {
             cause,
-            told: Ok(None),
+            diagnostic: Ok(None),
         }
     }
 
@@ -121,9 +122,9 @@ impl<'a> Refusal<'a> {
     pub(crate) fn of_lock(alloc: Global, error: LockError, file: &FileBytes<'_>) -> Refusal<'a>
         ensures { result.cause ≡ cause.Unopened (unopened.Refused (open_error.Lock error)) }
     {
-        let told = lock_diagnostic(alloc, file.path, &file.bytes, &error);
+        let diagnostic = lock_diagnostic(alloc, file.path, &file.bytes, &error);
         let cause = Cause::Unopened(Unopened::Refused(OpenError::Lock(error)));
-        Refusal { cause, told }
+        Refusal { cause, diagnostic }
     }
 
     /// An environment that stands alone is refused.
@@ -135,9 +136,9 @@ impl<'a> Refusal<'a> {
         ensures { result.cause
             ≡ cause.Unopened (unopened.Refused (open_error.Environment error)) }
     {
-        let told = environment_told(alloc, &error, machine);
+        let diagnostic = environment_refusal(alloc, &error, machine);
         let cause = Cause::Unopened(Unopened::Refused(OpenError::Environment(error)));
-        Refusal { cause, told }
+        Refusal { cause, diagnostic }
     }
 
     /// One of two locks is refused.
@@ -149,9 +150,9 @@ impl<'a> Refusal<'a> {
     ) -> Refusal<'a>
         ensures { result.cause ≡ cause.Side side error }
     {
-        let told = lock_diagnostic(alloc, file.path, &file.bytes, &error);
+        let diagnostic = lock_diagnostic(alloc, file.path, &file.bytes, &error);
         let cause = Cause::Side(side, error);
-        Refusal { cause, told }
+        Refusal { cause, diagnostic }
     }
 }
 
@@ -164,18 +165,19 @@ pub(crate) fn write_refusal<W: Sink, N: Sink>(
     refusal: Refusal<'_>,
     outputs: &mut Outputs<W, N>,
 ) -> Result<u8, RunFault>
-    ensures printed { PrintsTelling (λ told. refusal_report form told refusal.entry.cause)
+    ensures printed { PrintsTelling
+        (λ diagnostic. refusal_report form diagnostic refusal.entry.cause)
         (W.value outputs.old.writer) (W.value outputs.new.writer) result }
     ensures memory { is_memory refusal.entry.cause ≡ true → (result ≡ Err fault.Memory)
         × (W.value outputs.new.writer ≡ W.value outputs.old.writer) }
 {
-    let Refusal { cause, told } = refusal;
+    let Refusal { cause, diagnostic } = refusal;
     if cause.is_memory() {
         return Err(RunFault::Memory);
     }
     match form {
-        Some(form) => write_cause(alloc, form, &cause, told, outputs),
-        None => tell_cause(alloc, &cause, told, outputs),
+        Some(form) => write_cause(alloc, form, &cause, diagnostic, outputs),
+        None => tell_cause(alloc, &cause, diagnostic, outputs),
     }
 }
 
@@ -184,31 +186,31 @@ fn write_cause<W: Sink, N: Sink>(
     alloc: Global,
     form: Form,
     cause: &Cause<'_>,
-    told: Result<Option<Diagnostic>, AllocError>,
+    diagnostic: Result<Option<Diagnostic>, AllocError>,
     outputs: &mut Outputs<W, N>,
 ) -> Result<u8, RunFault>
-    ensures { PrintsTelling (λ told. cause_report form told cause.now)
+    ensures { PrintsTelling (λ diagnostic. cause_report form diagnostic cause.now)
         (W.value outputs.old.writer) (W.value outputs.new.writer) result }
 {
-    let told = told_in(form, told)?;
+    let diagnostic = diagnostic_in(form, diagnostic)?;
     let mut out = Vec::new(alloc);
-    push_cause(alloc, &mut out, form, cause, told.as_ref())?;
+    push_cause(alloc, &mut out, form, cause, diagnostic.as_ref())?;
     let end = print(&out, cause.status(), &mut outputs.writer);
-    if let (Ok(_), Some(told)) = (end, told) {
-        tell(alloc, &mut outputs.notes, told.message());
+    if let (Ok(_), Some(diagnostic)) = (end, diagnostic) {
+        tell(alloc, &mut outputs.diagnostics, diagnostic.message());
     }
     end
 }
 
-/// What is told in this form: lines are printed also where memory ran out for what a person would
+/// The diagnostic in this form: lines are printed also where memory ran out for what a person would
 /// be told beside them, while of a document it is a part.
-fn told_in(
+fn diagnostic_in(
     form: Form,
-    told: Result<Option<Diagnostic>, AllocError>,
+    diagnostic: Result<Option<Diagnostic>, AllocError>,
 ) -> Result<Option<Diagnostic>, AllocError> {
-    match (form, told) {
+    match (form, diagnostic) {
         (Form::Lines, Err(_)) => Ok(None),
-        (_, told) => told,
+        (_, diagnostic) => diagnostic,
     }
 }
 
@@ -216,7 +218,7 @@ fn told_in(
 fn tell_cause<W: Sink, N: Sink>(
     alloc: Global,
     cause: &Cause<'_>,
-    told: Result<Option<Diagnostic>, AllocError>,
+    diagnostic: Result<Option<Diagnostic>, AllocError>,
     outputs: &mut Outputs<W, N>,
 ) -> Result<u8, RunFault>
     ensures { Prints (silence (cause_status cause.now))
@@ -224,47 +226,47 @@ fn tell_cause<W: Sink, N: Sink>(
 {
     let mut lines = Vec::new(alloc);
     push_cause(alloc, &mut lines, Form::Lines, cause, None)?;
-    tell_bytes(&mut outputs.notes, &lines);
-    if let Ok(Some(told)) = told {
-        tell(alloc, &mut outputs.notes, told.message());
+    tell_bytes(&mut outputs.diagnostics, &lines);
+    if let Ok(Some(diagnostic)) = diagnostic {
+        tell(alloc, &mut outputs.diagnostics, diagnostic.message());
     }
     print(&[], cause.status(), &mut outputs.writer)
 }
 
-/// Pushes what is printed of a refusal, in whose document is what is told of it.
+/// Pushes what is printed of a refusal, in whose document the diagnostic is.
 fn push_cause(
     alloc: Global,
     out: &mut Vec<u8>,
     form: Form,
     cause: &Cause<'_>,
-    told: Option<&Diagnostic>,
+    diagnostic: Option<&Diagnostic>,
 ) -> Result<(), AllocError>
     ensures { OnOk result (out.new.items
-        ≡ out.old.items ++ cause_told form (option_copied told.entry) cause.now) }
+        ≡ out.old.items ++ cause_printed form (option_copied diagnostic.entry) cause.now) }
 {
     match cause {
-        Cause::Unopened(unopened) => push_unopened(alloc, out, form, unopened, told),
-        Cause::Side(side, error) => push_side(alloc, out, (form, *side), error, told),
-        Cause::Option(choice) => push_option(alloc, out, form, *choice, told),
+        Cause::Unopened(unopened) => push_unopened(alloc, out, form, unopened, diagnostic),
+        Cause::Side(side, error) => push_side(alloc, out, (form, *side), error, diagnostic),
+        Cause::Option(option) => push_option(alloc, out, form, *option, diagnostic),
     }
 }
 
 /// Pushes what is printed in place of an answer where there is no session: the findings as `audit`
-/// prints them, or the refusal of the lock or the environment. `told` is what a document has beside
-/// the words of a refusal. It takes memory for a document.
+/// prints them, or the refusal of the lock or the environment. `diagnostic` is what a document has
+/// beside the words of a refusal. It takes memory for a document.
 pub fn push_unopened(
     alloc: Global,
     out: &mut Vec<u8>,
     form: Form,
     unopened: &Unopened,
-    told: Option<&Diagnostic>,
+    diagnostic: Option<&Diagnostic>,
 ) -> Result<(), AllocError>
     ensures { OnOk result (out.new.items
-        ≡ out.old.items ++ unopened_told form (option_copied told.entry) unopened.now) }
+        ≡ out.old.items ++ unopened_printed form (option_copied diagnostic.entry) unopened.now) }
 {
     match unopened {
         Unopened::Findings(found) => push_found(alloc, out, form, found.as_slice()),
-        Unopened::Refused(refusal) => push_open_error(alloc, out, form, refusal, told),
+        Unopened::Refused(refusal) => push_open_error(alloc, out, form, refusal, diagnostic),
     }
 }
 
@@ -284,21 +286,21 @@ pub(crate) fn push_found(
 }
 
 /// Pushes what is printed of a refused lock or environment: its line, or the JSON document of the
-/// line's words and of what is told beside them, each with an LF at its end. It takes memory for
+/// line's words and of the diagnostic beside them, each with an LF at its end. It takes memory for
 /// the document.
 pub fn push_open_error(
     alloc: Global,
     out: &mut Vec<u8>,
     form: Form,
     refusal: &OpenError,
-    told: Option<&Diagnostic>,
+    diagnostic: Option<&Diagnostic>,
 ) -> Result<(), AllocError>
     ensures { OnOk result (out.new.items
-        ≡ out.old.items ++ refusal_told form (option_copied told.entry) refusal.now) }
+        ≡ out.old.items ++ refusal_printed form (option_copied diagnostic.entry) refusal.now) }
 {
     match form {
         Form::Lines => push_refusal(out, refusal),
-        Form::Json => push_refusal_json(alloc, out, refusal, told),
+        Form::Json => push_refusal_json(alloc, out, refusal, diagnostic),
     }
 }
 
@@ -308,15 +310,21 @@ fn push_side(
     out: &mut Vec<u8>,
     shown: (Form, Side),
     error: &LockError,
-    told: Option<&Diagnostic>,
+    diagnostic: Option<&Diagnostic>,
 ) -> Result<(), AllocError>
     ensures { OnOk result (out.new.items ≡ out.old.items
-        ++ side_told shown.0 (option_copied told.entry) shown.1 error.now) }
+        ++ side_printed shown.0 (option_copied diagnostic.entry) shown.1 error.now) }
 {
     let (form, side) = shown;
     match form {
         Form::Lines => push_side_error(out, side.word(), error),
-        Form::Json => push_words(alloc, out, &["lock", side.word()], lock_words(error), told),
+        Form::Json => push_words(
+            alloc,
+            out,
+            &["lock", side.word()],
+            lock_words(error),
+            diagnostic,
+        ),
     }
 }
 
@@ -325,16 +333,16 @@ fn push_option(
     alloc: Global,
     out: &mut Vec<u8>,
     form: Form,
-    choice: Choice<'_>,
-    told: Option<&Diagnostic>,
+    option: PlanOption<'_>,
+    diagnostic: Option<&Diagnostic>,
 ) -> Result<(), AllocError>
     ensures { OnOk result (out.new.items
-        ≡ out.old.items ++ option_told form (option_copied told.entry) choice.entry) }
+        ≡ out.old.items ++ option_printed form (option_copied diagnostic.entry) option.entry) }
 {
     if matches!(form, Form::Json) {
-        return push_option_json(alloc, out, choice, told);
+        return push_option_json(alloc, out, option, diagnostic);
     }
-    let (word, text) = option_words(choice);
+    let (word, text) = option_words(option);
     out.extend_from_slice(b"refused\t")?;
     out.extend_from_slice(word.as_bytes())?;
     push_next_field(out, text)?;

@@ -19,12 +19,12 @@ ghost use Rattle.pylock_run.specs.declared.report.opening.OpenError.TheVariants 
 
 mod texts;
 
+use crate::diagnostics::expected::{tell_marker, tell_text};
 use crate::export::write_files_export;
 use crate::failure::{Failure, program_end};
 use crate::file::{FileBytes, MachineInput, read_bytes, read_machine};
 use crate::host::{Host, Outputs};
 use crate::lines::list_status;
-use crate::notes::expected::{tell_marker, tell_text};
 use crate::opening::read_environment;
 use crate::refusal::{REFUSED, Refusal, push_found, push_open_error, write_refusal};
 use crate::reply::texts::{
@@ -57,7 +57,7 @@ pub(crate) fn list_files<F: Files, R: Source, W: Sink, N: Sink>(
     host: &mut Host<F, R, W, N>,
 ) -> Result<u8, Failure>
     ensures { Opens (F.read_gives host.old.files) lock.now
-        (λ bytes. RepliesTelling (λ told. files_report output told bytes))
+        (λ bytes. RepliesTelling (λ diagnostic. files_report output diagnostic bytes))
         (R.value host.old.reader) (R.value host.new.reader)
         (W.value host.old.outputs.writer) (W.value host.new.outputs.writer) result }
 {
@@ -72,7 +72,7 @@ fn write_files<W: Sink, N: Sink>(
     file: &FileBytes<'_>,
     outputs: &mut Outputs<W, N>,
 ) -> Result<u8, RunFault>
-    ensures { PrintsTelling (λ told. files_report output told file.now.bytes.items)
+    ensures { PrintsTelling (λ diagnostic. files_report output diagnostic file.now.bytes.items)
         (W.value outputs.old.writer) (W.value outputs.new.writer) result }
 {
     match Lock::read(alloc, &file.bytes) {
@@ -177,7 +177,7 @@ pub(crate) fn audit_lock<F: Files, R: Source, W: Sink, N: Sink>(
     host: &mut Host<F, R, W, N>,
 ) -> Result<u8, Failure>
     ensures { Opens (F.read_gives host.old.files) lock.now
-        (λ bytes. RepliesTelling (λ told. audit_report form told bytes))
+        (λ bytes. RepliesTelling (λ diagnostic. audit_report form diagnostic bytes))
         (R.value host.old.reader) (R.value host.new.reader)
         (W.value host.old.outputs.writer) (W.value host.new.outputs.writer) result }
 {
@@ -194,7 +194,7 @@ fn write_audit<W: Sink, N: Sink>(
     file: &FileBytes<'_>,
     outputs: &mut Outputs<W, N>,
 ) -> Result<u8, RunFault>
-    ensures { PrintsTelling (λ told. audit_report form told file.now.bytes.items)
+    ensures { PrintsTelling (λ diagnostic. audit_report form diagnostic file.now.bytes.items)
         (W.value outputs.old.writer) (W.value outputs.new.writer) result }
 {
     match read_audited(alloc, &file.bytes) {
@@ -242,7 +242,7 @@ pub(crate) fn judge_marker<F: Files, R: Source, W: Sink, N: Sink>(
     host: &mut Host<F, R, W, N>,
 ) -> Result<u8, Failure>
     ensures { OpensMachine (F.read_gives host.old.files) machine.entry
-        (λ read. RepliesTelling (λ told. marker_report form told marker.now read))
+        (λ read. RepliesTelling (λ diagnostic. marker_report form diagnostic marker.now read))
         (R.value host.old.reader) (R.value host.new.reader)
         (W.value host.old.outputs.writer) (W.value host.new.outputs.writer) result }
 {
@@ -259,7 +259,8 @@ fn write_marker<W: Sink, N: Sink>(
     machine: &MachineInput<'_>,
     outputs: &mut Outputs<W, N>,
 ) -> Result<u8, RunFault>
-    ensures { PrintsTelling (λ told. marker_report form told text.now (machine_read machine.now))
+    ensures { PrintsTelling
+        (λ diagnostic. marker_report form diagnostic text.now (machine_read machine.now))
         (W.value outputs.old.writer) (W.value outputs.new.writer) result }
 {
     let mut out = Vec::new(alloc);
@@ -267,7 +268,7 @@ fn write_marker<W: Sink, N: Sink>(
         Ok(status) => {
             let end = print(&out, status, &mut outputs.writer);
             if let Ok(REFUSED_TEXT) = end {
-                tell_marker(alloc, &mut outputs.notes, text, machine);
+                tell_marker(alloc, &mut outputs.diagnostics, text, machine);
             }
             end
         }
@@ -339,7 +340,7 @@ pub(crate) fn print_target<W: Sink, N: Sink>(
     outputs: &mut Outputs<W, N>,
 ) -> Result<u8, RunFault>
     ensures { PrintsTelling
-        (λ told. target_report told target.entry.python.now target.entry.platform.now)
+        (λ diagnostic. target_report diagnostic target.entry.python.now target.entry.platform.now)
         (W.value outputs.old.writer) (W.value outputs.new.writer) result }
 {
     match target_text(alloc, target) {
@@ -377,7 +378,7 @@ pub(crate) fn answer_text<W: Sink, N: Sink>(
     let status = push_answer(alloc, &mut out, question, form)?;
     let end = print(&out, status, &mut outputs.writer);
     if let Ok(REFUSED_TEXT) = end {
-        tell_text(alloc, &mut outputs.notes, question);
+        tell_text(alloc, &mut outputs.diagnostics, question);
     }
     end
 }

@@ -10,12 +10,12 @@ ghost use Rattle.pylock_program.specs.Show.{view_report, view_shown};
 ghost use Rattle.pylock_run.specs.Report.{is_plan};
 ghost use Rattle.pylock_run.specs.Report.Print.{Prints};
 
+use crate::diagnostics::fault::tell_fault;
+use crate::diagnostics::options::tell_options;
 use crate::export::write_plan_export;
 use crate::failure::{Failure, program_end};
 use crate::file::{Inputs, read_bytes, read_machine};
 use crate::host::{Host, Outputs};
-use crate::notes::fault::tell_fault;
-use crate::notes::options::tell_notes;
 use crate::opening::open_question;
 use crate::refusal::write_refusal;
 use crate::text::explain::push_explanation;
@@ -34,7 +34,7 @@ pub(crate) fn answer_question<F: Files, R: Source, W: Sink, N: Sink>(
 ) -> Result<u8, Failure>
     ensures { Opens (F.read_gives host.old.files) question.now.opening.lock.now
         (λ lock. OpensMachine (F.read_gives host.old.files) question.now.opening.machine
-        (λ read. RepliesTelling (λ told. question_report question.now told lock read)))
+        (λ read. RepliesTelling (λ diagnostic. question_report question.now diagnostic lock read)))
         (R.value host.old.reader) (R.value host.new.reader)
         (W.value host.old.outputs.writer) (W.value host.new.outputs.writer) result }
 {
@@ -66,7 +66,7 @@ fn write_answer<W: Sink, N: Sink>(
     inputs: Inputs<'_>,
     outputs: &mut Outputs<W, N>,
 ) -> Result<u8, RunFault>
-    ensures { PrintsTelling (λ told. question_report question.now told
+    ensures { PrintsTelling (λ diagnostic. question_report question.now diagnostic
         inputs.entry.lock.now.bytes.items (machine_read inputs.entry.machine.now))
         (W.value outputs.old.writer) (W.value outputs.new.writer) result }
 {
@@ -108,7 +108,7 @@ fn write_output<W: Sink, N: Sink>(
         Output::Tool(format) => write_plan_export(alloc, format, session, &answer, outputs),
     };
     if end.is_ok() {
-        tell_answer(alloc, &mut outputs.notes, question, session, &answer);
+        tell_answer(alloc, &mut outputs.diagnostics, question, session, &answer);
     }
     end
 }
@@ -116,19 +116,19 @@ fn write_output<W: Sink, N: Sink>(
 /// Tells what the options may not do as they seem to, and of `plan` where a fault is, and why.
 fn tell_answer<N: Sink>(
     alloc: Global,
-    notes: &mut N,
+    diagnostics: &mut N,
     question: &Question<'_>,
     session: &Session,
     answer: &Answer,
 ) {
-    tell_notes(alloc, notes, session, &question.choices);
+    tell_options(alloc, diagnostics, session, &question.options);
     if matches!(question.output, Output::View(View::Explain, _)) {
         return;
     }
     if let Answer::Fault { id, code } = answer {
         tell_fault(
             alloc,
-            notes,
+            diagnostics,
             question.opening.machine,
             session,
             (*id, *code),

@@ -9,7 +9,7 @@ use Rattle.pylock_readers.specs.Entry.{EntryValue}
 use Rattle.pylock_readers.specs.Entry.Reading.{entry_in}
 use Rattle.pylock_readers.specs.Inner.Elements.{entries_read, lock_after, lock_with}
 use Rattle.pylock_readers.specs.Lock.Packages.{HasRead, PackagesValue, entries_or}
-use Rattle.pylock_readers.specs.Lock.Reading.{at_position, entries_in, entries_of, item_count, lock_in, most_entries, room_for}
+use Rattle.pylock_readers.specs.Lock.Reading.{at_position, entries_in, entries_of, item_count, lock_in, most_entries, capacity_for}
 use Rattle.pylock_readers.specs.declared.error.EntryError.{EntryError}
 use Rattle.pylock_readers.specs.declared.error.LockError.{LockError}
 use Rattle.pylock_readers.specs.declared.error.LockError.TheVariants.{Entry}
@@ -94,15 +94,15 @@ passed count es r taken d over h = record {
 counted : (count : ℕ) (es now : List EntryValue) (r after : Option EntryError) (taken : Items) (d : Data) → count ≤ most_entries
     → (item_count taken < most_entries → count ≡ item_count taken → entries_of 1 (push_item taken d) ≡ entries_or now after)
     → HasRead (read_so count es r) taken → HasRead (read_so (count + 1) now after) (push_item taken d)
-counted count es now r after taken d room read h = record {
+counted count es now r after taken d capacity read h = record {
   many = λ few. omega (arith, count_push taken d, h.many (omega (arith, few, count_push taken d)));
   too_many = λ more. by (ltb most_entries (item_count taken)) refl more;
-  within = omega (arith, room);
+  within = omega (arith, capacity);
   read = λ few. let less : item_count taken < most_entries = omega (arith, few, count_push taken d) in read less (h.many (omega (arith, less)));
 }
   where
     by : (b : Bool) → ltb most_entries (item_count taken) ≡ b → most_entries < item_count (push_item taken d) → most_entries < count + 1
-    by true is more = let over : most_entries < count = h.too_many (ltb-true most_entries (item_count taken) is) in absurd (omega (arith, over, room))
+    by true is more = let over : most_entries < count = h.too_many (ltb-true most_entries (item_count taken) is) in absurd (omega (arith, over, capacity))
     by false is more =
         let few : item_count taken ≤ most_entries = ltb-false most_entries (item_count taken) is in
         omega (arith, h.many few, more, count_push taken d)
@@ -110,23 +110,23 @@ counted count es now r after taken d room read h = record {
 -- it is one too many
 pub counted_last : (count : ℕ) (es : List EntryValue) (r : Option EntryError) (taken : Items) (d : Data) → count ≤ most_entries → most_entries < count + 1
     → HasRead (read_so count es r) taken → HasRead (read_so (count + 1) es r) (push_item taken d)
-counted_last count es r taken d room over h =
-    counted count es es r r taken d room (λ less same. absurd (omega (arith, less, same, over))) h
+counted_last count es r taken d capacity over h =
+    counted count es es r r taken d capacity (λ less same. absurd (omega (arith, less, same, over))) h
 
 -- it is behind one that is refused
 pub counted_refused : (count : ℕ) (es : List EntryValue) (r : Option EntryError) (taken : Items) (d : Data) → count ≤ most_entries → is_some r ≡ true
     → HasRead (read_so count es r) taken → HasRead (read_so (count + 1) es r) (push_item taken d)
-counted_refused count es None taken d room refused h = absurd (true≢false (sym refused))
-counted_refused count es (Some e) taken d room refused h =
-    counted count es es (Some e) (Some e) taken d room
+counted_refused count es None taken d capacity refused h = absurd (true≢false (sym refused))
+counted_refused count es (Some e) taken d capacity refused h =
+    counted count es es (Some e) (Some e) taken d capacity
     (λ less same. entries_push 1 taken d ∙ ap (then_one (1 + item_count taken) d) (h.read (omega (arith, less)))) h
 
 -- it is an entry
 pub counted_entry : (count : ℕ) (es : List EntryValue) (r : Option EntryError) (taken : Items) (d : Data) (e : EntryValue) → count + 1 ≤ most_entries → is_some r ≡ false
     → entry_in d ≡ Ok e → HasRead (read_so count es r) taken → HasRead (read_so (count + 1) (es ++ e ∷ []) r) (push_item taken d)
-counted_entry count es (Some x) taken d e room none is h = absurd (true≢false none)
-counted_entry count es None taken d e room none is h =
-    counted count es (es ++ e ∷ []) None None taken d (omega (arith, room))
+counted_entry count es (Some x) taken d e capacity none is h = absurd (true≢false none)
+counted_entry count es None taken d e capacity none is h =
+    counted count es (es ++ e ∷ []) None None taken d (omega (arith, capacity))
     (λ less same.
     entries_push 1 taken d ∙ ap (then_one (1 + item_count taken) d) (h.read (omega (arith, less)))
     ∙ ap (λ one. at_position (1 + item_count taken) one >>= (λ x. Ok (es ++ x ∷ []))) is) h
@@ -134,9 +134,9 @@ counted_entry count es None taken d e room none is h =
 -- or the first that is refused
 pub counted_refusal : (count : ℕ) (es : List EntryValue) (r : Option EntryError) (taken : Items) (d : Data) (e : EntryError) → count + 1 ≤ most_entries → is_some r ≡ false
     → entry_in d ≡ Err e → HasRead (read_so count es r) taken → HasRead (read_so (count + 1) es (Some e)) (push_item taken d)
-counted_refusal count es (Some x) taken d e room none is h = absurd (true≢false none)
-counted_refusal count es None taken d e room none is h =
-    counted count es es None (Some e) taken d (omega (arith, room))
+counted_refusal count es (Some x) taken d e capacity none is h = absurd (true≢false none)
+counted_refusal count es None taken d e capacity none is h =
+    counted count es es None (Some e) taken d (omega (arith, capacity))
     (λ less same.
     let read = h.read (omega (arith, less)) in
     let place : 1 + item_count taken ≡ length es + 1 = omega (arith, entries_len 1 taken es read) in
@@ -161,10 +161,10 @@ appended_all (item d ds) = appended_item d no_items ds ∙ ap (item d) (appended
 
 -- ---- the lock
 
-pub read_is : (count : ℕ) (es : List EntryValue) (r : Option EntryError) (taken : Items) → HasRead (read_so count es r) taken → (room_for taken >>= (λ room. entries_of 1 taken)) ≡ entries_read (read_so count es r)
+pub read_is : (count : ℕ) (es : List EntryValue) (r : Option EntryError) (taken : Items) → HasRead (read_so count es r) taken → (capacity_for taken >>= (λ capacity. entries_of 1 taken)) ≡ entries_read (read_so count es r)
 read_is count es r taken h = by (ltb most_entries (item_count taken)) refl
   where
-    by : (b : Bool) → ltb most_entries (item_count taken) ≡ b → (room_for taken >>= (λ room. entries_of 1 taken)) ≡ entries_read (read_so count es r)
+    by : (b : Bool) → ltb most_entries (item_count taken) ≡ b → (capacity_for taken >>= (λ capacity. entries_of 1 taken)) ≡ entries_read (read_so count es r)
     by true is = rw (is, lt-ltb most_entries count (h.too_many (ltb-true most_entries (item_count taken) is)))
     by false is =
         let few : item_count taken ≤ most_entries = ltb-false most_entries (item_count taken) is in
@@ -172,7 +172,7 @@ read_is count es r taken h = by (ltb most_entries (item_count taken)) refl
 
 -- a document with elements of `packages` has the head that it has without them
 pub with_is : (document : Members) (d : Data) (ds : Items) → lock_in (with_elements (codes "packages") (item d ds) document)
-    ≡ lock_with document (room_for (item d ds) >>= (λ room. entries_of 1 (item d ds)))
+    ≡ lock_with document (capacity_for (item d ds) >>= (λ capacity. entries_of 1 (item d ds)))
 unfolding lock_in lock_with entries_in
 with_is document d ds =
     rw (

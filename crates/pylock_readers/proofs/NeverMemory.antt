@@ -20,7 +20,7 @@ use Rattle.pylock_readers.specs.Entry.Reading.{entry_in, entry_of, sources_in, t
 use Rattle.pylock_readers.specs.Entry.Sources.{archive_of, directory_of, file_of, vcs_of}
 use Rattle.pylock_readers.specs.Environment.{env_in, env_of, from_tags, tag_list_of, member_text_in, members_in, tag_items, texts_in, value_of, with_member, with_members, with_text}
 use Rattle.pylock_readers.specs.Lock.Head.{head_in, is_lock_version, names_in}
-use Rattle.pylock_readers.specs.Lock.Reading.{at_position, item_count, document_of, entries_in, entries_of, lock_in, lock_of, most_entries, room_for}
+use Rattle.pylock_readers.specs.Lock.Reading.{at_position, item_count, document_of, entries_in, entries_of, lock_in, lock_of, most_entries, capacity_for}
 use Rattle.pylock_readers.specs.Text.{utf8_text}
 use Rattle.pylock_readers.specs.declared.error.EntryError.{EntryError}
 use Rattle.pylock_readers.specs.declared.error.EntryError.TheVariants as entry
@@ -95,7 +95,7 @@ packages_never_memory : (refusal : LockError) (field : Option Data) → is_want 
 unfolding entries_in
 packages_never_memory refusal field want =
     after_key refusal lock.Packages (items_in field) _ (differs lock.Packages refusal want refl)
-    (λ items. never_then refusal (room_for items) _
+    (λ items. never_then refusal (capacity_for items) _
     (never_cond refusal (nat_lt most_entries (item_count items)) (Err lock.TooMany) (Ok tt) (never_err refusal lock.TooMany (differs lock.TooMany refusal want refl)) (never_ok refusal tt))
     (λ _. entries_never_memory refusal 1 items want))
 

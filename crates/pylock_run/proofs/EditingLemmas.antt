@@ -264,20 +264,20 @@ pub rest_prints : (shown : Shown) (at : EditingValue) (bytes : List ℕ) → IsF
 rest_prints shown at bytes none = part_text shown at bytes (IsPart-none bytes none)
 
 -- what a line keeps of more bytes
-take-append_room : (n : ℕ) (xs ys : List ℕ) → length xs ≤ n → take n (xs ++ ys) ≡ xs ++ take (n - length xs) ys
-take-append_room n [] ys fits = ap (λ m. take m ys) (omega arith)
-take-append_room zero (x ∷ xs) ys fits = absurd (omega arith)
-take-append_room (suc n) (x ∷ xs) ys fits =
+take-append_capacity : (n : ℕ) (xs ys : List ℕ) → length xs ≤ n → take n (xs ++ ys) ≡ xs ++ take (n - length xs) ys
+take-append_capacity n [] ys fits = ap (λ m. take m ys) (omega arith)
+take-append_capacity zero (x ∷ xs) ys fits = absurd (omega arith)
+take-append_capacity (suc n) (x ∷ xs) ys fits =
     let less : length xs ≤ n = omega arith in
     let same : n - length xs ≡ suc n - suc (length xs) = omega arith in
-    ap (λ l. x ∷ l) (take-append_room n xs ys less ∙ ap (λ m. xs ++ take m ys) same)
+    ap (λ l. x ∷ l) (take-append_capacity n xs ys less ∙ ap (λ m. xs ++ take m ys) same)
 
 take-min_length : (n : ℕ) (ys : List ℕ) → take (min (length ys) n) ys ≡ take n ys
 take-min_length n ys = ap (λ m. take m ys) (omega arith) ∙ take_min n ys
 
-pub kept_part_room : (xs ys : List ℕ) → length xs ≤ line_limit + 1 → kept_part (xs ++ ys) ≡ xs ++ take (min (length ys) (line_limit + 1 - length xs)) ys
+pub kept_part_capacity : (xs ys : List ℕ) → length xs ≤ line_limit + 1 → kept_part (xs ++ ys) ≡ xs ++ take (min (length ys) (line_limit + 1 - length xs)) ys
 unfolding kept_part
-kept_part_room xs ys fits = take-append_room (line_limit + 1) xs ys fits ∙ ap (λ l. xs ++ l) (sym (take-min_length (line_limit + 1 - length xs) ys))
+kept_part_capacity xs ys fits = take-append_capacity (line_limit + 1) xs ys fits ∙ ap (λ l. xs ++ l) (sym (take-min_length (line_limit + 1 - length xs) ys))
 
 pub begun-end_line : (at : EditingValue) → lines_begun (end_line at) ≡ at.complete + 1
 unfolding end_line

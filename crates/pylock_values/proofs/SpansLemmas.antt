@@ -69,19 +69,19 @@ span_fits piece o rest e =
 -- ---- pieces and the commas between them are the text
 
 -- how long the pieces are, with a byte behind each
-abbrev pub room : List (List ℕ) → ℕ
-room [] = 0
-room (piece ∷ pieces) = length piece + 1 + room pieces
+abbrev pub capacity : List (List ℕ) → ℕ
+capacity [] = 0
+capacity (piece ∷ pieces) = length piece + 1 + capacity pieces
 
-onto_room : (b : ℕ) (parts : List (List ℕ)) → 1 ≤ length parts → room (onto_first b parts) ≡ suc (room parts)
-onto_room b [] some = absurd (omega arith)
-onto_room b (part ∷ parts) some = omega arith
+onto_capacity : (b : ℕ) (parts : List (List ℕ)) → 1 ≤ length parts → capacity (onto_first b parts) ≡ suc (capacity parts)
+onto_capacity b [] some = absurd (omega arith)
+onto_capacity b (part ∷ parts) some = omega arith
 
-pub split_room : (p : ℕ → Bool) (text : List ℕ) → room (slice_split p text) ≡ length text + 1
-split_room p [] = refl
-split_room p (b ∷ rest) = elim (cases_Bool (p b)) [
-  | inl cuts ↦ rw (slice_split-cons_yes p b rest cuts, split_room p rest) (omega arith)
-  | inr other ↦ rw (slice_split-cons_no p b rest other, onto_room b (slice_split p rest) (omega (arith, length-slice_split p rest)), split_room p rest) (omega arith)
+pub split_capacity : (p : ℕ → Bool) (text : List ℕ) → capacity (slice_split p text) ≡ length text + 1
+split_capacity p [] = refl
+split_capacity p (b ∷ rest) = elim (cases_Bool (p b)) [
+  | inl cuts ↦ rw (slice_split-cons_yes p b rest cuts, split_capacity p rest) (omega arith)
+  | inr other ↦ rw (slice_split-cons_no p b rest other, onto_capacity b (slice_split p rest) (omega (arith, length-slice_split p rest)), split_capacity p rest) (omega arith)
 ]
 
 -- ---- what stands at the spans

@@ -5,7 +5,7 @@
 //! ```rust
 //! let version = Version::parse(alloc, text)?;
 //! let release = words_of(alloc, version.release())?;
-//! let numbers = VersionNumbers::of(&version);
+//! Ok((release, VersionNumbers::of(&version)))
 //! ```
 #![tactic(auto)]
 

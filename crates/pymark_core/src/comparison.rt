@@ -519,7 +519,7 @@ fn value_by(
 }
 
 /// The same of a variable on the right, whose text is read here. It stands alone, so that other
-/// comparisons don't make room for a specifier.
+/// comparisons don't allocate a specifier.
 #[inline(never)]
 fn value_by_variable(
     alloc: Global,

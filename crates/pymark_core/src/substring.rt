@@ -22,13 +22,13 @@ const PLACES: usize = 32;
 pub(crate) fn is_substring(part: &str, whole: &str) -> bool
     ensures { result ≡ is_substring part.now whole.now }
 {
-    has_room(part, whole) && is_found(part, whole)
+    has_capacity(part, whole) && is_found(part, whole)
 }
 
 /// Whether the second text is as long as the first, which else stands nowhere in it. Neither is
 /// looked at, however long they are.
 #[tactic(auto, using(crate::proofs::Lemmas::Marker::Value::Substrings::longer_nowhere))]
-fn has_room(part: &str, whole: &str) -> bool
+fn has_capacity(part: &str, whole: &str) -> bool
     ensures { result ≡ false → is_substring part.now whole.now ≡ false }
 {
     part.len() <= whole.len()
@@ -57,7 +57,7 @@ fn is_far_in(part: &str, whole: &str) -> bool
 {
     let from = whole.floor_char_boundary(passed_places(part.as_bytes(), whole.as_bytes()));
     let rest = &whole[from..];
-    has_room(part, rest) && is_near_in(part, rest)
+    has_capacity(part, rest) && is_near_in(part, rest)
 }
 
 /// How many places at the front of the text are passed over, at none of which the part begins.

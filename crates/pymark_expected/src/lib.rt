@@ -5,8 +5,9 @@
 //! proved of them. From `crates/grammar_cases/src/expected.rt`:
 //!
 //! ```rust
-//! let text = text(alloc, case, "requirement")?;
-//! let fault = requirement_fault(alloc, text.as_str())?;
+//! "marker" => marker_fault(alloc, text),
+//! "requirement" => requirement_fault(alloc, text),
+//! "set" => set_fault(alloc, text),
 //! ```
 #![tactic(auto)]
 

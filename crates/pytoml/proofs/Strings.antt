@@ -29,18 +29,18 @@ body_ends (suc n) text e some = body_special 34 false n text (rw e refl) ∙ at_
 
 body_all : (front rest : List ℕ) (n : ℕ) → list_all (is_plain 34 false) front ≡ true → length (front ++ rest) < n
     → (m : ℕ) × (length rest < m) × (body 34 false n (front ++ rest) ≡ prepend front (body 34 false m rest))
-body_all [] rest n all room = (n, room, sym (prepend-nil _))
-body_all (c ∷ cs) rest zero all room = absurd (omega arith)
-body_all (c ∷ cs) rest (suc n) all room =
+body_all [] rest n all capacity = (n, capacity, sym (prepend-nil _))
+body_all (c ∷ cs) rest zero all capacity = absurd (omega arith)
+body_all (c ∷ cs) rest (suc n) all capacity =
     let (here, behind) = and_parts (is_plain 34 false c) (list_all (is_plain 34 false) cs) all in
     let (m, fits, run) = body_all cs rest n behind (omega arith) in
     (m, fits, body_plain 34 false n c (cs ++ rest) here ∙ ap (prepend (c ∷ [])) run ∙ prepend-prepend (c ∷ []) cs _)
 
 -- a run is taken as it is
 pub run_on : (s : List ℕ) (k : ℕ) (old new : List ℕ) → list_all (is_plain 34 false) (take k s) ≡ true → new ≡ old ++ take k s → GoesOn s old (drop k s) new
-run_on s k old new all grown n room =
+run_on s k old new all grown n capacity =
     let whole = take-append-drop k s in
-    let (m, fits, run) = body_all (take k s) (drop k s) n all (rw whole room) in
+    let (m, fits, run) = body_all (take k s) (drop k s) n all (rw whole capacity) in
     (m, fits, ap (λ t. prepend old (body 34 false n t)) (sym whole) ∙ ap (prepend old) run ∙ prepend-prepend old (take k s) _ ∙ rw (← grown) refl)
 
 after_escape : (n : ℕ) (s bytes rest : List ℕ) → first s ≡ 92 → escape false (drop 1 s) ≡ Some (bytes, rest)
@@ -50,8 +50,8 @@ after_escape n s bytes rest e read = rw (e, read) refl
 
 -- an escape adds what it stands for
 pub escape_on : (s rest old new : List ℕ) → first s ≡ 92 → Escapes (drop 1 s) old rest new → length rest < length s → GoesOn s old rest new
-escape_on s rest old new e (bytes, read, grown) shorter zero room = absurd (omega arith)
-escape_on s rest old new e (bytes, read, grown) shorter (suc n) room = (
+escape_on s rest old new e (bytes, read, grown) shorter zero capacity = absurd (omega arith)
+escape_on s rest old new e (bytes, read, grown) shorter (suc n) capacity = (
   n,
   omega arith,
   ap (prepend old) (body_special 34 false n s (rw e refl) ∙ after_escape n s bytes rest e read) ∙ prepend-prepend old bytes _ ∙ rw (← grown) refl,
@@ -97,22 +97,22 @@ front_on s end is = run_on s end [] (take end s) (simple_run s end is) refl
 -- the string is the run up to the quote
 pub string_ends : (s : List ℕ) (end n : ℕ) → end ≡ 0 + prefix_len is_simple s → first (drop end s) ≡ 34 → length s < n
     → body 34 false n s ≡ Some (take end s, drop 1 (drop end s))
-string_ends s end n is closing room =
-    let (m, fits, on) = front_on s end is n room in
+string_ends s end n is closing capacity =
+    let (m, fits, on) = front_on s end is n capacity in
     sym (prepend-nil _) ∙ on ∙ ap (prepend (take end s)) (body_ends m (drop end s) closing (omega arith)) ∙ rw (append-nil (take end s)) refl
 
 -- the string is the run, and what is read behind it
 pub string_goes_on : (s : List ℕ) {A : Type 0} (f : A → List ℕ) (r : Result (A × Bor (List ℕ)) Unread) (end n : ℕ) → end ≡ 0 + prefix_len is_simple s
     → ((m : ℕ) → length (drop end s) < m → Reads f r (prepend (take end s) (body 34 false m (drop end s)))) → length s < n
     → Reads f r (body 34 false n s)
-string_goes_on s f r end n is read room =
-    let (m, fits, on) = front_on s end is n room in
+string_goes_on s f r end n is read capacity =
+    let (m, fits, on) = front_on s end is n capacity in
     rw (sym (prepend-nil (body 34 false n s)) ∙ on) (read m fits)
 
 -- what goes on, goes on
 pub on_and_on : (s old rest new rest' new' : List ℕ) → GoesOn s old rest new → GoesOn rest new rest' new' → GoesOn s old rest' new'
-on_and_on s old rest new rest' new' one two n room =
-    let (m, fits, on) = one n room in
+on_and_on s old rest new rest' new' one two n capacity =
+    let (m, fits, on) = one n capacity in
     let (k, short, more) = two m fits in
     (k, short, on ∙ more)
 

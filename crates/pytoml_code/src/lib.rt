@@ -1,5 +1,5 @@
 //! Codes of TOML values: the value as inline TOML, with marks by which one value can't be taken for
-//! another. So values are compared, ordered and kept as bytes, in about the room of their text, and
+//! another. So values are compared, ordered and kept as bytes, in about the size of their text, and
 //! shown when they have to be.
 //!
 //! From `crates/pylock_diff/src/codes.rt`:

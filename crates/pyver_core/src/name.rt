@@ -63,7 +63,7 @@ pub fn normal_name(alloc: Global, text: &str) -> Result<String, AllocError>
 pub fn write_normal_name(text: &str, out: &mut [u8]) -> Option<usize>
     ensures count { SomeIff result (length text.now ≤ length out.old)
         (length (normal_name text.now)) }
-    ensures room { IfSome result (λ count. count ≤ length out.old) }
+    ensures capacity { IfSome result (λ count. count ≤ length out.old) }
     ensures written { IfSome result (λ count. out.new
         ≡ normal_name text.now ++ drop count out.old) }
     ensures kept { IfNone result (out.new ≡ out.old) }

@@ -7,10 +7,8 @@
 //! The best of some wheels, or `None`, from `crates/grammar_cases/src/wheels.rt`:
 //!
 //! ```rust
-//! match TagList::parse(alloc, tags) {
-//!     Ok(tags) => Ok(format!(in alloc; "{:?}", choose(wheels, &tags))?),
-//!     Err(refusal) => Err(anyhow::anyhow!("the tags are refused: {refusal:?}")),
-//! }
+//! let tags = tag_list(alloc, text(alloc, case, "tags")?.as_str())?;
+//! Ok(format!(in alloc; "{:?}", choose(&wheels, &tags))?)
 //! ```
 #![tactic(auto)]
 

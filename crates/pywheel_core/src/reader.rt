@@ -193,16 +193,16 @@ fn shared_end(
         Err(WheelError::Memory) => return Err(AllocError),
         Err(_) => return Ok(None),
     };
-    make_room(ends, alloc);
+    reserve_capacity(ends, alloc);
     let text = String::from_str(alloc, text)?;
     ends.insert(text, end.clone()?)?;
     Ok(Some(end))
 }
 
 /// Lets the ends go where there are as many as a reader keeps.
-fn make_room(ends: &mut BTreeMap<String, Rc<NameEnd>>, alloc: Global)
+fn reserve_capacity(ends: &mut BTreeMap<String, Rc<NameEnd>>, alloc: Global)
     requires { btree_map_len ends.old ≤ 4096 }
-    ensures room { btree_map_len ends.new < 4096 }
+    ensures capacity { btree_map_len ends.new < 4096 }
     ensures kept { AllRead end_in (λ e. end_value e.value) ends.old.entries
         → AllRead end_in (λ e. end_value e.value) ends.new.entries }
 {

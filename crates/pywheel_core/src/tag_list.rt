@@ -88,13 +88,13 @@ impl TagList {
         Ok(list)
     }
 
-    /// An empty list with room for so many tags. Room for none takes no memory.
-    fn with_capacity(alloc: Global, room: usize) -> Result<TagList, AllocError>
+    /// An empty list with capacity for so many tags. For none it takes no memory.
+    fn with_capacity(alloc: Global, capacity: usize) -> Result<TagList, AllocError>
         ensures empty { IfOk result (λ list. list ≡ []) }
-        ensures succeeds { room ≡ 0 → IsOk result }
+        ensures succeeds { capacity ≡ 0 → IsOk result }
     {
-        let tags = IndexSet::with_capacity(alloc, room)?;
-        let marks = if room == 0 {
+        let tags = IndexSet::with_capacity(alloc, capacity)?;
+        let marks = if capacity == 0 {
             None
         } else {
             Some(Marks::none(alloc)?)

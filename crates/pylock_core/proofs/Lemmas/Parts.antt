@@ -122,8 +122,8 @@ pub both_named_as : (old new : Names) → ((q : List ℕ) → number_named new q
 both_named_as old new numbers e r h = of_both_weaker (IsNamed old) (IsNamed new) (named_as old new numbers) e r h
 
 -- entries and rows that have other room
-pub shown_room : (p : Parts) (entries : Vec (Option EntryValue) Global) (rows : Vec (Option Row) Global) → entries.items ≡ p.entries.items → rows.items ≡ p.rows.items → shown (record p { entries = entries; rows = rows }) ≡ shown p
-shown_room p entries rows es rs = λ i. record (shown p) {
+pub shown_capacity : (p : Parts) (entries : Vec (Option EntryValue) Global) (rows : Vec (Option Row) Global) → entries.items ≡ p.entries.items → rows.items ≡ p.rows.items → shown (record p { entries = entries; rows = rows }) ≡ shown p
+shown_capacity p entries rows es rs = λ i. record (shown p) {
   state = record (state_of p) { entries = in_rows 1 (es i); last = length (es i) };
   verdicts = record { head = p.head_verdict; entries = in_rows 1 (map verdict_in (rs i)) };
 }

@@ -69,7 +69,7 @@ impl Parts {
         head: Head,
         environment: Environment,
         tags: TagList,
-        room: usize,
+        capacity: usize,
         mut judged: Judged,
     ) -> Result<Parts, AllocError>
         ensures session { IfOk result (λ parts. IsSession parts) }
@@ -85,11 +85,11 @@ impl Parts {
     {
         let environment = asked_environment(environment, head.default_groups().as_slice())?;
         let head_verdict = HeadVerdict::new(alloc, &head, &environment, &mut judged)?;
-        let living = Vec::with_capacity(alloc, room)?;
-        let rows = Vec::with_capacity(alloc, room)?;
-        let names = Names::with_capacity(alloc, room)?;
-        let sets = TagSets::with_capacity(alloc, room)?;
-        let entries = Vec::with_capacity(alloc, room)?;
+        let living = Vec::with_capacity(alloc, capacity)?;
+        let rows = Vec::with_capacity(alloc, capacity)?;
+        let names = Names::with_capacity(alloc, capacity)?;
+        let sets = TagSets::with_capacity(alloc, capacity)?;
+        let entries = Vec::with_capacity(alloc, capacity)?;
         let index = head_index(alloc, &head)?;
         let conditions = Conditions::none(alloc)?;
         Ok(Parts {

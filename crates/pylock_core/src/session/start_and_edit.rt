@@ -48,7 +48,7 @@ impl Judged {
         }
     }
 
-    /// Makes room for so many more numbers.
+    /// Reserves capacity for so many more numbers.
     pub(crate) fn reserve(&mut self, more: usize) -> Result<(), AllocError>
         ensures { self.new ≡ self.old }
     {

@@ -10,7 +10,7 @@ use Rattle.pylock_readers.specs.Entry.{EntryValue}
 use Rattle.pylock_readers.specs.Entry.Reading.{entry_in, name_in}
 use Rattle.pylock_readers.specs.Lock.{HeadValue, LockValue}
 use Rattle.pylock_readers.specs.Lock.Head.{created_by_in, head_in, lock_version_in}
-use Rattle.pylock_readers.specs.Lock.Reading.{at_position, entries_in, entries_of, lock_in, room_for}
+use Rattle.pylock_readers.specs.Lock.Reading.{at_position, entries_in, entries_of, lock_in, capacity_for}
 use Rattle.pylock_readers.specs.declared.error.EntryError.{EntryError}
 use Rattle.pylock_readers.specs.declared.error.LockError.{LockError}
 use Rattle.pytoml_code.specs.Proper.{AreProper, HasProper, IfThere, IsProper}
@@ -126,14 +126,14 @@ rows_are place (item d ds) entries reads =
 
 -- ---- the lock
 
-roomed : (room : Result ⊤ LockError) (read : Result (List EntryValue) LockError) (entries : List EntryValue) → (room >>= (λ r. read)) ≡ Ok entries → read ≡ Ok entries
-roomed (Err e) read entries reads = absurd cc
-roomed (Ok r) read entries reads = reads
+reserved : (capacity : Result ⊤ LockError) (read : Result (List EntryValue) LockError) (entries : List EntryValue) → (capacity >>= (λ r. read)) ≡ Ok entries → read ≡ Ok entries
+reserved (Err e) read entries reads = absurd cc
+reserved (Ok r) read entries reads = reads
 
 entries_read : (field : Option Data) (entries : List EntryValue) → entries_in field ≡ Ok entries → entries_of 1 (items_at field) ≡ Ok entries
 unfolding entries_in
 entries_read None entries reads = reads
-entries_read (Some (array ds)) entries reads = roomed (room_for ds) (entries_of 1 ds) entries reads
+entries_read (Some (array ds)) entries reads = reserved (capacity_for ds) (entries_of 1 ds) entries reads
 entries_read (Some (string text)) entries reads = absurd cc
 entries_read (Some (integer z)) entries reads = absurd cc
 entries_read (Some (float x)) entries reads = absurd cc

@@ -18,7 +18,8 @@ key_by with_sources item =
 -- the set has these keys of the items
 abbrev pub HasKeys : (ItemValue → Texts) → BTreeSet Texts → List ItemValue → Type 0
 HasKeys key_of set items =
-    (key : Texts) → contains texts_cmp set key ≡ list_any (λ item. are_alike key (key_of item)) items
+    (key : Texts)
+    → contains texts_cmp set key ≡ list_any (λ item. are_alike key (key_of item)) items
 
 -- what stands under a version, a marker and a set of Pythons
 abbrev pub holds_at : BTreeMap Texts (BTreeSet Texts) → Texts → Texts → Bool

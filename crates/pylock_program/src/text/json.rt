@@ -7,26 +7,26 @@ ghost use Rattle.pylock_program.specs.Text.Json.{fault_json, line_refusal_json, 
 ghost use Rattle.pylock_program.specs.Text.Json.{refusal_json, words_json};
 ghost use Rattle.pylock_run.specs.Text.Refusal.{refusal_words};
 
-use crate::choices::option_words;
-use pylock_command::Choice;
+use crate::options::option_words;
+use pylock_command::PlanOption;
 use pylock_documents::{push_document, refused_document, refused_line_document};
 use pylock_json::Object;
 use pylock_messages::Diagnostic;
 use pylock_run::{LineRefusal, OpenError, RefusalWords, environment_words, line_word, lock_words};
 use std::alloc::{AllocError, Global};
 
-/// Pushes the document of a refusal, of these words and what is told.
+/// Pushes the document of a refusal, of these words and the diagnostic.
 #[tactic(auto, unfolding(crate::specs::Text::Json::words_json))]
 pub(crate) fn push_refused(
     alloc: Global,
     out: &mut Vec<u8>,
     words: &[&str],
-    told: Option<&Diagnostic>,
+    diagnostic: Option<&Diagnostic>,
 ) -> Result<(), AllocError>
     ensures { OnOk result (out.new.items ≡ out.old.items
-        ++ words_json (map (λ word. word.now) words.now) (option_copied told.entry)) }
+        ++ words_json (map (λ word. word.now) words.now) (option_copied diagnostic.entry)) }
 {
-    push_document(alloc, out, refused_document(alloc, words, told)?)
+    push_document(alloc, out, refused_document(alloc, words, diagnostic)?)
 }
 
 /// Pushes the document of a refusal whose words stand behind these.
@@ -35,21 +35,21 @@ pub(crate) fn push_words(
     out: &mut Vec<u8>,
     front: &[&str],
     words: RefusalWords,
-    told: Option<&Diagnostic>,
+    diagnostic: Option<&Diagnostic>,
 ) -> Result<(), AllocError>
     ensures { OnOk result (out.new.items ≡ out.old.items
         ++ words_json (map (λ word. word.now) front.now ++ refusal_words words)
-        (option_copied told.entry)) }
+        (option_copied diagnostic.entry)) }
 {
     let word = words.word;
     let number = number_text(alloc, words.number)?;
     match (number.as_deref(), words.detail) {
         (Some(number), Some(detail)) => {
-            push_both(alloc, out, front, &[word, number, detail], told)
+            push_both(alloc, out, front, &[word, number, detail], diagnostic)
         }
-        (Some(number), None) => push_both(alloc, out, front, &[word, number], told),
-        (None, Some(detail)) => push_both(alloc, out, front, &[word, detail], told),
-        (None, None) => push_both(alloc, out, front, &[word], told),
+        (Some(number), None) => push_both(alloc, out, front, &[word, number], diagnostic),
+        (None, Some(detail)) => push_both(alloc, out, front, &[word, detail], diagnostic),
+        (None, None) => push_both(alloc, out, front, &[word], diagnostic),
     }
 }
 
@@ -68,16 +68,16 @@ fn push_both(
     out: &mut Vec<u8>,
     front: &[&str],
     words: &[&str],
-    told: Option<&Diagnostic>,
+    diagnostic: Option<&Diagnostic>,
 ) -> Result<(), AllocError>
     ensures { OnOk result (out.new.items ≡ out.old.items
         ++ words_json (map (λ word. word.now) front.now ++ map (λ word. word.now) words.now)
-        (option_copied told.entry)) }
+        (option_copied diagnostic.entry)) }
 {
     let mut all = Vec::with_capacity(alloc, front.len() + words.len())?;
     all.extend_from_slice(front)?;
     all.extend_from_slice(words)?;
-    push_refused(alloc, out, &all, told)
+    push_refused(alloc, out, &all, diagnostic)
 }
 
 /// Pushes the document of a refused lock or environment. Want of memory prints nothing.
@@ -85,15 +85,21 @@ pub(crate) fn push_refusal_json(
     alloc: Global,
     out: &mut Vec<u8>,
     error: &OpenError,
-    told: Option<&Diagnostic>,
+    diagnostic: Option<&Diagnostic>,
 ) -> Result<(), AllocError>
     ensures { OnOk result (out.new.items
-        ≡ out.old.items ++ refusal_json error.now (option_copied told.entry)) }
+        ≡ out.old.items ++ refusal_json error.now (option_copied diagnostic.entry)) }
 {
     match error {
-        OpenError::Lock(error) => push_words(alloc, out, &["lock"], lock_words(error), told),
+        OpenError::Lock(error) => push_words(alloc, out, &["lock"], lock_words(error), diagnostic),
         OpenError::Environment(error) => {
-            push_words(alloc, out, &["environment"], environment_words(error), told)
+            push_words(
+                alloc,
+                out,
+                &["environment"],
+                environment_words(error),
+                diagnostic,
+            )
         }
         OpenError::Memory => Ok(()),
     }
@@ -132,14 +138,14 @@ pub(crate) fn push_fault_json(
 pub(crate) fn push_option_json(
     alloc: Global,
     out: &mut Vec<u8>,
-    choice: Choice<'_>,
-    told: Option<&Diagnostic>,
+    option: PlanOption<'_>,
+    diagnostic: Option<&Diagnostic>,
 ) -> Result<(), AllocError>
     ensures { OnOk result (out.new.items
-        ≡ out.old.items ++ option_json choice.entry (option_copied told.entry)) }
+        ≡ out.old.items ++ option_json option.entry (option_copied diagnostic.entry)) }
 {
-    match option_words(choice) {
-        (word, Some(text)) => push_refused(alloc, out, &[word, text], told),
-        (word, None) => push_refused(alloc, out, &[word], told),
+    match option_words(option) {
+        (word, Some(text)) => push_refused(alloc, out, &[word, text], diagnostic),
+        (word, None) => push_refused(alloc, out, &[word], diagnostic),
     }
 }

@@ -41,13 +41,13 @@ item_count (item d ds) = suc (item_count ds)
 abbrev pub packages_in : Option Data → Result Items LockError
 packages_in field = or_refused Packages (items_in field)
 
-abbrev pub room_for : Items → Result ⊤ LockError
-room_for items = if nat_lt most_entries (item_count items) then Err TooMany else Ok tt
+abbrev pub capacity_for : Items → Result ⊤ LockError
+capacity_for items = if nat_lt most_entries (item_count items) then Err TooMany else Ok tt
 
 unfoldable pub entries_in : Option Data → Result (List EntryValue) LockError
 entries_in field = do
   items ← packages_in field
-  _ ← room_for items
+  _ ← capacity_for items
   entries_of 1 items
 
 -- ---- the lock

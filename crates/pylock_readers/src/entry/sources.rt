@@ -19,7 +19,7 @@ use std::alloc::Global;
 use std::marker::Model;
 use toml::{Table, Value};
 
-/// The sources of an entry. Nearly every entry has one or two, and the others take no room.
+/// The sources of an entry. Nearly every entry has one or two, and the others take no memory.
 pub(crate) struct Sources {
     pub(crate) vcs: Option<Box<Vcs>>,
     pub(crate) directory: Option<Box<Directory>>,

@@ -13,7 +13,7 @@ pub record PiecesValue : Type 0 where
 -- how many calls it fails, and its failures
 pub record RoomValue : Type 0 where
   pub held : List ℕ
-  pub room : ℕ
+  pub capacity : ℕ
   pub piece : ℕ
   pub fails_in : Option ℕ
   pub failures : ℕ

@@ -167,14 +167,14 @@ impl Editing {
     }
 
     /// Keeps more bytes of the line, as far as they are needed to tell that it is too long.
-    #[tactic(auto, using(crate::proofs::EditingLemmas::kept_part_room))]
+    #[tactic(auto, using(crate::proofs::EditingLemmas::kept_part_capacity))]
     fn keep_bytes(&mut self, bytes: &[u8]) -> Result<(), AllocError>
         requires { self.old.complete < most_lines }
         ensures { OnOk result (self.new
             ≡ record self.old { line = kept_part (self.old.line ++ bytes.now) }) }
     {
-        let room = LINE_LIMIT + 1 - self.line.len();
-        let count = bytes.len().min(room);
+        let capacity = LINE_LIMIT + 1 - self.line.len();
+        let count = bytes.len().min(capacity);
         self.line.extend_from_slice(&bytes[..count])
     }
 

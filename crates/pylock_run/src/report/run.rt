@@ -108,7 +108,7 @@ fn read_next<R: Source>(
     buffer: &mut [u8],
     total: &mut u64,
 ) -> Result<usize, RunFault>
-    requires room { 0 < length buffer.old }
+    requires capacity { 0 < length buffer.old }
     requires within { total.old ≤ most_bytes }
     ensures count { IfOk result (λ count. count ≤ length buffer.new) }
     ensures given { IfOk result (λ count. Consumes (R.value reader.old).rest
@@ -140,7 +140,7 @@ fn feed_next<P: Printing, R: Source, W: Sink>(
     out: &mut Vec<u8>,
     writer: &mut W,
 ) -> Result<bool, RunFault>
-    requires room { 0 < length buffer.old }
+    requires capacity { 0 < length buffer.old }
     requires within { total.old ≤ most_bytes }
     requires empty { out.old.items ≡ [] }
     ensures edited { OnOk result (Edited (P.shown printing.now)
@@ -171,7 +171,7 @@ fn feed_all<P: Printing, R: Source, W: Sink>(
     out: &mut Vec<u8>,
     writer: &mut W,
 ) -> Result<(), RunFault>
-    requires room { 0 < length buffer.old }
+    requires capacity { 0 < length buffer.old }
     requires empty { out.old.items ≡ [] }
     ensures edited { OnOk result (EditsAll (P.shown printing.now)
         (R.value reader.old) (R.value reader.new) (W.value writer.old) (W.value writer.new)

@@ -100,7 +100,7 @@ impl<'a> Source for Pieces<'a> {
 /// A sink over memory that it took when it was made.
 pub struct Room {
     bytes: Vec<u8>,
-    room: usize,
+    capacity: usize,
     piece: usize,
     fails_in: Option<u64>,
     failures: u64,
@@ -114,20 +114,20 @@ impl Model for Room {
 
     ghost view = { λ r. record {
       held = r.bytes.items;
-      room = r.room;
+      capacity = r.capacity;
       piece = r.piece;
       fails_in = r.fails_in;
       failures = r.failures;
     } };
 
-    ghost invariant = { λ r. (vec_len r.bytes ≤ r.room) × (r.room ≤ vec_capacity r.bytes) };
+    ghost invariant = { λ r. (vec_len r.bytes ≤ r.capacity) × (r.capacity ≤ vec_capacity r.bytes) };
 }
 
 impl Drop for Room {
     fn drop(self) {
         let Room {
             bytes: _,
-            room: _,
+            capacity: _,
             piece: _,
             fails_in: _,
             failures: _,
@@ -140,21 +140,21 @@ impl Room {
     /// the number `fail_at`, counted from 1, fails. All the memory is taken here.
     pub fn new(
         alloc: Global,
-        room: usize,
+        capacity: usize,
         piece: usize,
         fail_at: Option<u64>,
     ) -> Result<Room, AllocError>
         ensures { IfOk result (λ r. r ≡ record {
           held = [];
-          room = room;
+          capacity = capacity;
           piece = piece;
           fails_in = fail_at;
           failures = 0;
         }) }
     {
         Ok(Room {
-            bytes: Vec::with_capacity(alloc, room)?,
-            room,
+            bytes: Vec::with_capacity(alloc, capacity)?,
+            capacity,
             piece,
             fails_in: fail_at,
             failures: 0,
@@ -175,7 +175,7 @@ impl Sink for Room {
     fn write(&mut self, piece: &[u8]) -> Result<usize, IoFault>
         ensures fails { IsErr result ↔ FailsNext self.old.fails_in }
         ensures count { IfOk result (λ n. n ≡ min (min (length piece.now) self.old.piece)
-            (self.old.room - length self.old.held)) }
+            (self.old.capacity - length self.old.held)) }
         ensures ok { IfOk result (λ n. self.new ≡ record self.old {
           held = self.old.held ++ take n piece.now;
           fails_in = after_call self.old.fails_in;
@@ -194,7 +194,7 @@ impl Sink for Room {
             self.failures = self.failures.saturating_add(1);
             return Err(IoFault);
         }
-        let space = self.room - self.bytes.len();
+        let space = self.capacity - self.bytes.len();
         let count = piece.len().min(self.piece).min(space);
         let Ok(()) = self.bytes.extend_from_slice(&piece[..count]) else {
             unreachable!()

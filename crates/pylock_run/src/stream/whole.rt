@@ -53,7 +53,7 @@ fn read_piece<R: Source>(
     bytes: &mut Vec<u8>,
     limit: u64,
 ) -> Result<bool, FileFault>
-    requires room { 0 < length buffer.old }
+    requires capacity { 0 < length buffer.old }
     requires within { vec_len bytes.old ≤ limit }
     ensures gave { OnOk result (GivesPiece (R.value reader.old) (R.value reader.new)
         bytes.old.items bytes.new.items) }

@@ -2,8 +2,9 @@
 //! the quick way to `source_line` with `file_fields`. Any other line goes the slow way beside it,
 //! part by part (`push_source_line` of `plan.rt`).
 //!
-//! The room of the line is made at once, its texts are put in their places with `-` between them,
-//! all of them are tested in one look, and then the marks of a line stand in place of each `-`.
+//! The capacity of the line is reserved at once, its texts are put in their places with `-`
+//! between them, all of them are tested in one look, and then the marks of a line stand in place of
+//! each `-`.
 
 ghost use Rattle.std.specs.Prelude.{◌≡◌, ◌++◌, ◌∷◌, ◌+◌, ◌≤◌, length, take, drop, false, true};
 ghost use Rattle.std.specs.Prelude.{IfSome, IfOk, IsTrue};
@@ -157,8 +158,8 @@ fn push_texts(out: &mut Vec<u8>, texts: &FileTexts<'_>) -> Result<bool, AllocErr
     Ok(done)
 }
 
-/// Puts the line where its room begins, which is the last of `line`, if all texts are ordinary, and
-/// answers whether they are.
+/// Puts the line where its capacity begins, which is the last of `line`, if all texts are
+/// ordinary, and answers whether they are.
 #[inline]
 fn put_line(line: &mut [u8], start: usize, texts: &FileTexts<'_>) -> bool
     requires { start + file_line_size texts.now ≡ length line.old }

@@ -24,7 +24,7 @@ impl Nesting {
     /// Passes over one byte.
     #[tactic(auto, using(crate::proofs::Lemmas::Marker::Depth::passed))]
     fn pass_byte(&mut self, byte: u8)
-        requires room { (self.old.opened + 1 < 2 ^ 64) × (self.old.closed + 1 < 2 ^ 64) }
+        requires capacity { (self.old.opened + 1 < 2 ^ 64) × (self.old.closed + 1 < 2 ^ 64) }
         requires flat { self.old.opened ≤ self.old.closed + depth_limit }
         ensures ahead { (rest : List ℕ)
             → is_deep_from self.new rest ≡ is_deep_from self.old (byte ∷ rest) }

@@ -77,7 +77,8 @@ version_cmp-Equal v w e =
     let e6 = then_second _ _ e5 in
     let post : v.post ≡ w.post = option_cmp-tie _ _ (then_first _ _ e4) in
     let dev : v.dev ≡ w.dev = dev_cmp-tie _ _ (then_first _ _ e5) in
-    let number : phase_number v.pre ≡ phase_number w.pre = nat_cmp-IsAntisymmetric _ _ (then_first _ _ e3) in
+    let number : phase_number v.pre ≡ phase_number w.pre =
+    nat_cmp-IsAntisymmetric _ _ (then_first _ _ e3) in
     let rank : phase_rank v.pre v.post v.dev ≡ phase_rank w.pre w.post w.dev =
     nat_cmp-IsAntisymmetric _ _ (then_first _ _ e2) in
     let released = sym (release_cmp_without_zeros v.release w.release) ∙ then_first _ _ e1 in

@@ -6,9 +6,9 @@ use Rattle.pyver_core.specs.declared.version.reading.normal_version.NormalVersio
 
 -- the parts, where these are the numbers of the release and others behind them
 abbrev pub normal_parts : List ℕ → NormalVersion → Parts
-normal_parts room p = record {
+normal_parts capacity p = record {
   epoch = 0;
-  release = take p.count room;
+  release = take p.count capacity;
   pre = p.pre;
   post = p.post;
   dev = p.dev;

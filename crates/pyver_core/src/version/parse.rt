@@ -44,10 +44,10 @@ impl Version {
         ensures { IfOk result (λ found. IfSome found (λ v. IsNormalVersion text.now v
             × (has_large (numbers v) ≡ false) × (least ≤ length v.release))) }
     {
-        let mut room = [0; MOST_NUMBERS];
-        match read_normal(text.as_bytes(), &mut room) {
+        let mut capacity = [0; MOST_NUMBERS];
+        match read_normal(text.as_bytes(), &mut capacity) {
             Some(normal) if normal.count >= least => {
-                Ok(Some(Version::from_normal(alloc, text, &room, &normal)?))
+                Ok(Some(Version::from_normal(alloc, text, &capacity, &normal)?))
             }
             _ => Ok(None),
         }
@@ -58,16 +58,16 @@ impl Version {
     fn from_normal(
         alloc: Global,
         text: &str,
-        room: &[u128],
+        capacity: &[u128],
         normal: &NormalVersion,
     ) -> Result<Version, AllocError>
-        requires within { normal.now.count ≤ length room.now }
-        requires normal { IsNormalVersion text.now (normal_parts room.now normal.now) }
-        ensures { IfOk result (λ v. v ≡ normal_parts room.now normal.now) }
+        requires within { normal.now.count ≤ length capacity.now }
+        requires normal { IsNormalVersion text.now (normal_parts capacity.now normal.now) }
+        ensures { IfOk result (λ v. v ≡ normal_parts capacity.now normal.now) }
     {
         let lent = PartsRef {
             epoch: 0,
-            release: &room[..normal.count],
+            release: &capacity[..normal.count],
             pre: normal.pre,
             post: normal.post,
             dev: normal.dev,
@@ -95,9 +95,9 @@ fn version_from_text(alloc: Global, text: &str) -> Result<Version, VersionError>
     ensures { Gives VersionError.Memory (λ v. v) result (parsed_version text.now) }
 {
     // Not by `parse_normal`: a large value is moved once less where it stands in line.
-    let mut room = [0; MOST_NUMBERS];
-    match read_normal(text.as_bytes(), &mut room) {
-        Some(normal) => Ok(Version::from_normal(alloc, text, &room, &normal)?),
+    let mut capacity = [0; MOST_NUMBERS];
+    match read_normal(text.as_bytes(), &mut capacity) {
+        Some(normal) => Ok(Version::from_normal(alloc, text, &capacity, &normal)?),
         None => version_from_bytes(alloc, text.as_bytes()),
     }
 }

@@ -10,4 +10,4 @@ returns-clause-written c =
     let name = normal_name c.in_ok-ok.field-0.now in
     let gives : name_of c.args.bytes.now ≡ Ok name = search rules in
     writes_some _ (name_of c.args.bytes.now) name c.args.out.now c.write_normal_name.new.out c.write_normal_name.result gives
-    c.write_normal_name.ensures.count c.write_normal_name.ensures.room c.write_normal_name.ensures.written
+    c.write_normal_name.ensures.count c.write_normal_name.ensures.capacity c.write_normal_name.ensures.written

@@ -8,8 +8,8 @@ use Rattle.std.specs.Global.{Global}
 use Rattle.std.specs.Str.{bytes_eq}
 use Rattle.std.specs.declared.vec.Vec.{Vec}
 use Rattle.std.proofs.lemmas.List.{get_or-map, get_or_default, length-map}
-use Rattle.pylock_core.specs.Inner.Tables.Index.{AllRise, HaveRoom, list_at, moved}
-use Rattle.pylock_core.specs.Inner.Tables.Names.{HasRoom, IsNames, is_at, members_under, number_named}
+use Rattle.pylock_core.specs.Inner.Tables.Index.{AllRise, HaveCapacity, list_at, moved}
+use Rattle.pylock_core.specs.Inner.Tables.Names.{HasCapacity, IsNames, is_at, members_under, number_named}
 use Rattle.pylock_core.specs.Inner.Parts.{AreLiving, AreMembers, IsIndex, IsNamed, OfBoth, OfRows}
 use Rattle.pylock_core.specs.Inner.Tables.Rows.{passes}
 use Rattle.pylock_readers.specs.Lock.{HeadValue}
@@ -72,8 +72,8 @@ entry_at_zero rows = entry_at_below 0 1 rows (omega arith)
 
 pub next_state : (state : State) (entry : EntryValue) (es more : List (Option EntryValue)) → state.entries ≡ in_rows 1 es → state.last ≡ length es → length es < 100000 → more ≡ es ++ Some entry ∷ []
     → with_next entry state ≡ Ok (record state { entries = in_rows 1 more; last = length more })
-next_state state entry es more entries last room is =
-    let less : state.last < 100000 = omega (arith, last, room) in
+next_state state entry es more entries last capacity is =
+    let less : state.last < 100000 = omega (arith, last, capacity) in
     let longer : state.last + 1 ≡ length more = omega (arith, last, ap length is, length_more es (Some entry)) in
     let rows : state.entries ++ (state.last + 1, entry) ∷ [] ≡ in_rows 1 more =
     ap (λ front. front ++ (state.last + 1, entry) ∷ []) entries ∙ sym (in_rows_push 1 (state.last + 1) es entry (omega (arith, last))) ∙ ap (in_rows 1) (sym is) in
@@ -119,9 +119,9 @@ row_below names None (Some r) is h = absurd h
 row_below names (Some e) None is h = absurd h
 row_below names (Some e) (Some r) is h = is.numbering.below e.name r.name h.name
 
-pub row_room : (names : Names) (r : Option Row) → IfSome r (λ row. HasRoom names row.name) → IfSome (row_name r) (λ n. HasRoom names n)
-row_room names None h = tt
-row_room names (Some r) h = h
+pub row_capacity : (names : Names) (r : Option Row) → IfSome r (λ row. HasCapacity names row.name) → IfSome (row_name r) (λ n. HasCapacity names n)
+row_capacity names None h = tt
+row_capacity names (Some r) h = h
 
 -- what stands under the number of a name
 under : (names : Names) (es : List (Option EntryValue)) (q : List ℕ) (n : ℕ) → AreMembers names es → number_named names q ≡ Some n
@@ -216,8 +216,8 @@ index_written lists new was is head es place number old e index there is_was is_
         ∙ sym (passing_set (entry_reads key) number 1 place es e here within))
 
 -- what reads nothing needs no room
-pub no_room : (lists : List (Vec ℕ Global)) → HaveRoom lists (map (λ key. passes (entry_reads key) None) keys) 0
-no_room lists = λ i d above less comes.
+pub no_capacity : (lists : List (Vec ℕ Global)) → HaveCapacity lists (map (λ key. passes (entry_reads key) None) keys) 0
+no_capacity lists = λ i d above less comes.
     let none : get_or (map (λ key. passes (entry_reads key) None) keys) i false ≡ false = get_or-map (λ key. passes (entry_reads key) None) keys i OfTags false less in
     let some : get_or (map (λ key. passes (entry_reads key) None) keys) i false ≡ true = comes in
     let e : ◌≡◌ {A = Bool} false true = sym none ∙ some in cc

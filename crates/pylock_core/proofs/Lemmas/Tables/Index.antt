@@ -145,11 +145,11 @@ changed_at lists old key k v w f within less changed same below =
     (λ at. subst (λ (j : ℕ). v.items ≡ f j (list_at old j)) (sym at) here) (λ ne. below (omega arith))
 
 -- each list up to one that has room now
-pub room_at : (lists : List (Vec ℕ Global)) (key k : ℕ) (v d : Vec ℕ Global) (comes : ℕ → Bool) → key < length lists → k < key + 1
+pub capacity_at : (lists : List (Vec ℕ Global)) (key k : ℕ) (v d : Vec ℕ Global) (comes : ℕ → Bool) → key < length lists → k < key + 1
     → (IsTrue (comes key) → vec_len v < vec_capacity v)
     → (k < key → IsTrue (comes k) → vec_len (get_or lists k d) < vec_capacity (get_or lists k d))
     → IsTrue (comes k) → vec_len (get_or (set lists key v) k d) < vec_capacity (get_or (set lists key v) k d)
-room_at lists key k v d comes within less now below =
+capacity_at lists key k v d comes within less now below =
     below_more (λ j. (j < key → IsTrue (comes j) → vec_len (get_or lists j d) < vec_capacity (get_or lists j d)) → IsTrue (comes j) → vec_len (get_or (set lists key v) j d) < vec_capacity (get_or (set lists key v) j d)) key k less
     (λ j under known come. rw (get_or-set_other lists key j v d (λ same. omega arith)) (known under come))
     (λ known come. rw (get_or-set_same lists key v d within) (now come))

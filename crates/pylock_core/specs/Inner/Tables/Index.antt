@@ -46,8 +46,8 @@ moved n false false ns = ns
 moved n true true ns = ns
 
 -- from this key on, each list that is to have a number has room for it
-abbrev pub HaveRoom : List (Vec ℕ Global) → List Bool → ℕ → Type 0
-HaveRoom lists reads from =
+abbrev pub HaveCapacity : List (Vec ℕ Global) → List Bool → ℕ → Type 0
+HaveCapacity lists reads from =
     (key : ℕ) (d : Vec ℕ Global) → from ≤ key → key < 14 → IsTrue (slice_index_or reads key false)
     → vec_len (slice_index_or lists key d) < vec_capacity (slice_index_or lists key d)
 

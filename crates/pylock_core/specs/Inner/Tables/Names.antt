@@ -64,9 +64,9 @@ AreMarks names list marks =
     (name : List ℕ) (n : ℕ) → number_named names name ≡ Some n
     → slice_index_or marks n false ≡ is_among list name
 
--- under the number there is room for one more entry
-abbrev pub HasRoom : Names → ℕ → Type 0
-HasRoom names n =
+-- under the number there is capacity for one more entry
+abbrev pub HasCapacity : Names → ℕ → Type 0
+HasCapacity names n =
     (d : Vec ℕ Global)
     → vec_len (slice_index_or names.members.items n d)
     < vec_capacity (slice_index_or names.members.items n d)

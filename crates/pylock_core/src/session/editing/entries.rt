@@ -6,8 +6,8 @@ ghost use Rattle.std.specs.Prelude.{slice_index_or, slice_set, vec_capacity, vec
 ghost use Rattle.std.specs.Option.{option_copied};
 ghost use Rattle.pylock_readers.specs.Entry.{wheel_names};
 ghost use Rattle.pylock_core.specs.Inner.Editing.{Leaves, Made};
-ghost use Rattle.pylock_core.specs.Inner.Tables.Index.{HaveRoom};
-ghost use Rattle.pylock_core.specs.Inner.Tables.Names.{HasRoom};
+ghost use Rattle.pylock_core.specs.Inner.Tables.Index.{HaveCapacity};
+ghost use Rattle.pylock_core.specs.Inner.Tables.Names.{HasCapacity};
 ghost use Rattle.pylock_core.specs.Inner.Parts.{IsJudged, IsNamed, IsSession, OfBoth, RowFits};
 ghost use Rattle.pylock_core.specs.Inner.Parts.{shown, sources_of, state_of};
 ghost use Rattle.pylock_core.specs.Session.State.{in_rows, entry_at};
@@ -21,12 +21,12 @@ use crate::edit::EditError;
 use crate::session::judging::verdict::Verdict;
 use crate::session::parts::Parts;
 use crate::session::start_and_edit::Judged;
+use crate::session::tables::capacity::{push_within, put_at};
 use crate::session::tables::conditions::number_of_condition;
 use crate::session::tables::index::{
     entry_keys, keys_at, move_in_list, move_in_lists, reserve_in_lists,
 };
 use crate::session::tables::names::{move_member, number_of, reserve_member};
-use crate::session::tables::room::{push_within, put_at};
 use crate::session::tables::rows::{Row, SourceKinds};
 use crate::session::tables::tag_sets::{numbers_of, sets_of};
 use pylock_readers::Entry;
@@ -73,7 +73,7 @@ fn sources_of(entry: &Entry) -> SourceKinds
 }
 
 /// The row of an entry that is to have this number. Its name and its condition get numbers where
-/// they have none, and there is room now under the keys that it reads and under its name.
+/// they have none, and there is capacity now under the keys that it reads and under its name.
 fn prepare_row(
     parts: &mut Parts,
     number: u32,
@@ -87,8 +87,8 @@ fn prepare_row(
     ensures judged { IfOk result (λ row. IsJudged
         parts.new.environment parts.new.tags parts.new.names.policies.items entry.now row) }
     ensures index { OnOk result
-        (HaveRoom parts.new.index (map (λ key. entry_reads key entry.now) keys) 0) }
-    ensures name { IfOk result (λ row. HasRoom parts.new.names row.name) }
+        (HaveCapacity parts.new.index (map (λ key. entry_reads key entry.now) keys) 0) }
+    ensures name { IfOk result (λ row. HasCapacity parts.new.names row.name) }
     ensures count { OnOk result (judged.new ≡ judged.old ++ number ∷ []) }
     ensures session { IsSession parts.new }
     ensures shown { shown parts.new ≡ shown parts.old }
@@ -167,8 +167,9 @@ fn write_entry(
     requires judged { OfBoth
         (IsJudged parts.old.environment parts.old.tags parts.old.names.policies.items) entry row }
     requires sets { AreNumbers (set_number parts.old.sets) (names_in entry) sets.items }
-    requires index { HaveRoom parts.old.index (map (λ key. passes (entry_reads key) entry) keys) 0 }
-    requires name { IfSome row (λ row. HasRoom parts.old.names row.name) }
+    requires index { HaveCapacity parts.old.index
+        (map (λ key. passes (entry_reads key) entry) keys) 0 }
+    requires name { IfSome row (λ row. HasCapacity parts.old.names row.name) }
     requires living { IsSome entry → IsSome (slice_index_or parts.old.entries.items place None)
         ⊎ (vec_len parts.old.living < vec_capacity parts.old.living) }
     ensures session { IsSession parts.new }
@@ -197,7 +198,7 @@ pub(crate) fn append_entry(
     judged: &mut Judged,
 ) -> Result<(), AllocError>
     requires session { IsSession parts.old }
-    requires room { length parts.old.entries.items < 100000 }
+    requires capacity { length parts.old.entries.items < 100000 }
     ensures session { IsSession parts.new }
     ensures made { OnOk result (Made (edit.Add entry) parts.old parts.new judged.old judged.new) }
     ensures kept { OnErr result (shown parts.new ≡ shown parts.old) }

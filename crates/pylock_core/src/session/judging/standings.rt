@@ -32,12 +32,12 @@ pub(crate) fn no_standings(
 ) -> Result<Vec<Option<FoundStanding>>, AllocError>
     ensures { IfOk result (λ found. (place : ℕ) → slice_index_or found.items place None ≡ None) }
 {
-    Ok(vec![in alloc; None; room_for(entries)]?)
+    Ok(vec![in alloc; None; capacity_for(entries)]?)
 }
 
 /// How many places there are: the least power of two that isn't below the count of the entries, and
 /// no more than are kept at most.
-fn room_for(entries: usize) -> usize {
+fn capacity_for(entries: usize) -> usize {
     if entries < FEW {
         return 0;
     }
@@ -45,8 +45,8 @@ fn room_for(entries: usize) -> usize {
 }
 
 /// The place of what is found of a number, among so many.
-fn place_of(number: u32, room: usize) -> usize {
-    number as usize & room.saturating_sub(1)
+fn place_of(number: u32, capacity: usize) -> usize {
+    number as usize & capacity.saturating_sub(1)
 }
 
 /// How entries of this number stand, if it was found and is still kept.

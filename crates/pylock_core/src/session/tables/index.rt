@@ -5,7 +5,7 @@
 ghost use Rattle.std.specs.Prelude.{◌≡◌, ℕ, ◌<◌, false, [], IfOk, IsTrue, OnOk, length, map};
 ghost use Rattle.std.specs.Prelude.{replicate, slice_index_or, vec_len, vec_capacity};
 ghost use Rattle.pylock_core.specs.Session.Judgement.{and_head, entry_reads, head_reads, keys};
-ghost use Rattle.pylock_core.specs.Inner.Tables.Index.{AllRise, HaveRoom, any_reads, list_at};
+ghost use Rattle.pylock_core.specs.Inner.Tables.Index.{AllRise, HaveCapacity, any_reads, list_at};
 ghost use Rattle.pylock_core.specs.Inner.Tables.Index.{moved, numbers_in, put_in, read_by};
 ghost use Rattle.pylock_core.specs.Inner.Tables.Index.{take_out};
 ghost use Rattle.pylock_core.specs.Session.State.{Rises};
@@ -119,10 +119,10 @@ pub(crate) fn head_index(alloc: Global, head: &Head) -> Result<KeyLists, AllocEr
     Ok(lists)
 }
 
-/// Makes room for one more number under each of the keys.
+/// Reserves capacity for one more number under each of the keys.
 pub(crate) fn reserve_in_lists(lists: &mut KeyLists, keys: &KeySet) -> Result<(), AllocError>
     ensures kept { numbers_in lists.new ≡ numbers_in lists.old }
-    ensures room { OnOk result (HaveRoom lists.new keys.now 0) }
+    ensures capacity { OnOk result (HaveCapacity lists.new keys.now 0) }
 {
     for key in 0..INDEX_KEYS {
         reserve_in_list(&mut lists[key], keys[key])?;
@@ -130,10 +130,10 @@ pub(crate) fn reserve_in_lists(lists: &mut KeyLists, keys: &KeySet) -> Result<()
     Ok(())
 }
 
-/// Makes room for one more number, where one is to come.
+/// Reserves capacity for one more number, where one is to come.
 pub(crate) fn reserve_in_list(numbers: &mut Vec<u32>, comes: bool) -> Result<(), AllocError>
     ensures kept { numbers.new.items ≡ numbers.old.items }
-    ensures room { OnOk result (IsTrue comes → vec_len numbers.new < vec_capacity numbers.new) }
+    ensures capacity { OnOk result (IsTrue comes → vec_len numbers.new < vec_capacity numbers.new) }
 {
     if comes {
         numbers.reserve(1)?;
@@ -141,9 +141,10 @@ pub(crate) fn reserve_in_list(numbers: &mut Vec<u32>, comes: bool) -> Result<(),
     Ok(())
 }
 
-/// Has the number under the keys that it is to be under, where it was under others. There is room.
+/// Has the number under the keys that it is to be under, where it was under others. There is
+/// capacity.
 pub(crate) fn move_in_lists(lists: &mut KeyLists, number: u32, was: &KeySet, is: &KeySet)
-    requires room { HaveRoom lists.old is.now 0 }
+    requires capacity { HaveCapacity lists.old is.now 0 }
     requires rise { AllRise lists.old }
     ensures changed { (key : ℕ) → key < 14 → list_at lists.new key
         ≡ moved number (slice_index_or was.now key false) (slice_index_or is.now key false)
@@ -157,7 +158,7 @@ pub(crate) fn move_in_lists(lists: &mut KeyLists, number: u32, was: &KeySet, is:
 
 /// Has the number in the list or not.
 pub(crate) fn move_in_list(numbers: &mut Vec<u32>, number: u32, was: bool, is: bool)
-    requires room { was ≡ false → IsTrue is → vec_len numbers.old < vec_capacity numbers.old }
+    requires capacity { was ≡ false → IsTrue is → vec_len numbers.old < vec_capacity numbers.old }
     requires rises { Rises 0 numbers.old.items }
     ensures { numbers.new.items ≡ moved number was is numbers.old.items }
 {
@@ -170,7 +171,7 @@ pub(crate) fn move_in_list(numbers: &mut Vec<u32>, number: u32, was: bool, is: b
 
 /// Puts the number into the increasing list, which has room.
 fn enter_number(numbers: &mut Vec<u32>, number: u32)
-    requires room { vec_len numbers.old < vec_capacity numbers.old }
+    requires capacity { vec_len numbers.old < vec_capacity numbers.old }
     requires rises { Rises 0 numbers.old.items }
     ensures { numbers.new.items ≡ put_in number numbers.old.items }
 {

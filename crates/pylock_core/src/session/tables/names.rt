@@ -9,13 +9,13 @@ ghost use Rattle.std.specs.BTreeMap.{Updates, btree_map_len, get_by_text};
 ghost use Rattle.std.specs.String.{string_cmp};
 ghost use Rattle.pylock_core.specs.Inner.Tables.Index.{list_at, moved};
 ghost use Rattle.pylock_core.specs.Session.State.{Rises, with_policies, with_policy};
-ghost use Rattle.pylock_core.specs.Inner.Tables.Names.{AreKnown, AreMarks, HasRoom, IsNames, Kept};
-ghost use Rattle.pylock_core.specs.Inner.Tables.Names.{Same, is_at};
+ghost use Rattle.pylock_core.specs.Inner.Tables.Names.{AreKnown, AreMarks, HasCapacity, IsNames};
+ghost use Rattle.pylock_core.specs.Inner.Tables.Names.{Kept, Same, is_at};
 ghost use Rattle.pylock_core.specs.Inner.Tables.Names.{members_named, number_named, policies_in};
 
 use crate::edit::Policy;
+use crate::session::tables::capacity::push_within;
 use crate::session::tables::index::{move_in_list, reserve_in_list};
-use crate::session::tables::room::push_within;
 use pyver_core::NormalName;
 use std::alloc::{AllocError, Global};
 use std::collections::BTreeMap;
@@ -41,15 +41,15 @@ impl Drop for Names {
 
 impl Names {
     /// None yet, with room for so many.
-    pub(crate) fn with_capacity(alloc: Global, room: usize) -> Result<Names, AllocError>
+    pub(crate) fn with_capacity(alloc: Global, capacity: usize) -> Result<Names, AllocError>
         ensures numbers { IfOk result (λ names. names.numbers.entries ≡ []) }
         ensures policies { IfOk result (λ names. names.policies.items ≡ []) }
         ensures members { IfOk result (λ names. names.members.items ≡ []) }
     {
         Ok(Names {
             numbers: BTreeMap::new(alloc),
-            policies: Vec::with_capacity(alloc, room)?,
-            members: Vec::with_capacity(alloc, room)?,
+            policies: Vec::with_capacity(alloc, capacity)?,
+            members: Vec::with_capacity(alloc, capacity)?,
         })
     }
 }
@@ -184,11 +184,11 @@ pub(crate) fn set_policies(names: &mut Names, list: &[NormalName], policy: Polic
     }
 }
 
-/// Makes room for one more entry of the name of this number.
+/// Reserves capacity for one more entry of the name of this number.
 pub(crate) fn reserve_member(names: &mut Names, number: usize) -> Result<(), AllocError>
     requires is { IsNames names.old }
     requires within { number < length names.old.policies.items }
-    ensures room { OnOk result (HasRoom names.new number) }
+    ensures capacity { OnOk result (HasCapacity names.new number) }
     ensures members { (q : List ℕ) → members_named names.new q ≡ members_named names.old q }
     ensures same { Same names.old names.new }
 {
@@ -199,7 +199,7 @@ pub(crate) fn reserve_member(names: &mut Names, number: usize) -> Result<(), All
 fn change_member(names: &mut Names, number: usize, entry: u32, is: bool)
     requires is { IsNames names.old }
     requires within { number < length names.old.policies.items }
-    requires room { IsTrue is → HasRoom names.old number }
+    requires capacity { IsTrue is → HasCapacity names.old number }
     requires rises { Rises 0 (list_at names.old.members.items number) }
     ensures members { (n : ℕ) → list_at names.new.members.items n ≡ (if nat_eq n number
         then moved entry (not is) is (list_at names.old.members.items n)
@@ -215,7 +215,7 @@ fn move_between(names: &mut Names, entry: u32, was: usize, is: usize)
     requires names { IsNames names.old }
     requires was { was < length names.old.policies.items }
     requires is { is < length names.old.policies.items }
-    requires room { HasRoom names.old is }
+    requires capacity { HasCapacity names.old is }
     requires was_rises { Rises 0 (list_at names.old.members.items was) }
     requires is_rises { Rises 0 (list_at names.old.members.items is) }
     ensures members { (n : ℕ) → list_at names.new.members.items n
@@ -234,7 +234,7 @@ pub(crate) fn move_member(names: &mut Names, entry: u32, was: Option<usize>, is:
     requires names { IsNames names.old }
     requires was { IfSome was (λ n. n < length names.old.policies.items) }
     requires is { IfSome is (λ n. n < length names.old.policies.items) }
-    requires room { IfSome is (λ n. HasRoom names.old n) }
+    requires capacity { IfSome is (λ n. HasCapacity names.old n) }
     requires was_rises { IfSome was (λ n. Rises 0 (list_at names.old.members.items n)) }
     requires is_rises { IfSome is (λ n. Rises 0 (list_at names.old.members.items n)) }
     ensures members { (n : ℕ) → list_at names.new.members.items n

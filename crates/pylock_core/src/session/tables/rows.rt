@@ -11,7 +11,7 @@ ghost use Rattle.pylock_core.specs.Session.State.{in_rows};
 use crate::answer::PickSource;
 use crate::edit::Policy;
 use crate::session::judging::verdict::{StandingAnew, Verdict};
-use crate::session::tables::room::put_at;
+use crate::session::tables::capacity::put_at;
 use std::alloc::{AllocError, Global};
 
 /// Which sources an entry has, its wheels apart, and whether all of them are of more than one kind.

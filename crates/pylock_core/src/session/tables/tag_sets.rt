@@ -7,8 +7,8 @@ ghost use Rattle.std.specs.BTreeMap.{btree_map_len};
 ghost use Rattle.pylock_core.specs.Inner.Tables.TagSets.{AreNumbers, AreSets, IsNumbered, SetsKept};
 ghost use Rattle.pylock_core.specs.Inner.Tables.TagSets.{names_in, set_number, set_text};
 
+use crate::session::tables::capacity::put_at;
 use crate::session::tables::names::give_number;
-use crate::session::tables::room::put_at;
 use pylock_readers::Entry;
 use pywheel_core::WheelName;
 use std::alloc::{AllocError, Global};
@@ -40,13 +40,13 @@ impl Drop for TagSets {
 
 impl TagSets {
     /// None yet, with room for the wheels of so many entries.
-    pub(crate) fn with_capacity(alloc: Global, room: usize) -> Result<TagSets, AllocError>
+    pub(crate) fn with_capacity(alloc: Global, capacity: usize) -> Result<TagSets, AllocError>
         ensures numbers { IfOk result (λ sets. sets.numbers.entries ≡ []) }
         ensures of_entries { IfOk result (λ sets. sets.of_entries.items ≡ []) }
     {
         Ok(TagSets {
             numbers: BTreeMap::new(alloc),
-            of_entries: Vec::with_capacity(alloc, room)?,
+            of_entries: Vec::with_capacity(alloc, capacity)?,
             wheels: 0,
         })
     }

@@ -5,9 +5,9 @@ use Rattle.pylock_diff.proofs.partners.have_same_keys.Goals as goal
 
 pub loop-place-preserved : goal.loop-place-preserved
 loop-place-preserved c =
-    let room : c.loop-place.place < length c.args.news.now = omega arith in
+    let capacity : c.loop-place.place < length c.args.news.now = omega arith in
     same_more c.args.olds.now c.args.news.now c.loop-place.place c.index-olds-place.result c.in-Some.new.now c.loop-place-test.true c.index-olds-place.is
-    room c.in-Some.ensures.lookup.1
+    capacity c.in-Some.ensures.lookup.1
     (c.are_same_codes.ensures c.if-not-are_same_codes.false) c.loop-place.invariant
 
 pub returns : goal.returns

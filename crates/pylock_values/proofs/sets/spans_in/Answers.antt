@@ -7,7 +7,7 @@ use Rattle.std.specs.Prelude.{◌==◌}
 use Rattle.std.proofs.lemmas.List.{append-nil}
 use Rattle.pytext.proofs.IteratorLemmas.{yields_next, yields_none}
 use Rattle.pylock_values.specs.Spans.{piece_span, set_pieces, spans_from}
-use Rattle.pylock_values.proofs.SpansLemmas.{room, split_room}
+use Rattle.pylock_values.proofs.SpansLemmas.{capacity, split_capacity}
 use Rattle.pylock_values.proofs.sets.spans_in.Goals as goal
 use Rattle.pylock_values.proofs.sets.spans_in.Goals.{In-Some}
 
@@ -15,19 +15,19 @@ pub loop-piece-init : goal.loop-piece-init
 loop-piece-init c =
     let text = c.args.text.now in
     let yields = YieldsList-from_str_split 44 text (omega arith) c.split-piece-items.ensures.text c.split-piece-items.ensures.has_more c.split-piece-items.ensures.pattern in
-    (set_pieces text, rw c.into_iter-piece-iterator.ensures.into_iter_gives yields, rw c.in_ok-spans.ensures.items refl, omega (arith, split_room (λ b. b == 44) text))
+    (set_pieces text, rw c.into_iter-piece-iterator.ensures.into_iter_gives yields, rw c.in_ok-spans.ensures.items refl, omega (arith, split_capacity (λ b. b == 44) text))
 
 -- what is left where another piece was taken
 taken : (c : In-Some) → (rest : List (List ℕ)) × YieldsList (split_steps FindsChar (λ a b. b ≡ a)) (λ y. y.now) c.next.new.self rest
     × (c.loop-piece.spans.items ++ spans_from c.loop-piece.start (c.in-Some.piece.now ∷ rest) ≡ spans_from 0 (set_pieces c.args.text.now))
-    × (c.loop-piece.start + room (c.in-Some.piece.now ∷ rest) ≡ length c.args.text.now + 1)
+    × (c.loop-piece.start + capacity (c.in-Some.piece.now ∷ rest) ≡ length c.args.text.now + 1)
 taken c =
     let i = c.loop-piece.invariant in
     let n = yields_next (split_steps FindsChar (λ a b. b ≡ a)) (λ y. y.now) c.loop-piece.piece-iterator i.0 i.1 c.in-Some.piece c.next.new.self c.in-Some.ensures.steps in (
       n.0,
       n.2,
       subst (λ left. c.loop-piece.spans.items ++ spans_from c.loop-piece.start left ≡ spans_from 0 (set_pieces c.args.text.now)) n.1 i.2,
-      subst (λ left. c.loop-piece.start + room left ≡ length c.args.text.now + 1) n.1 i.3,
+      subst (λ left. c.loop-piece.start + capacity left ≡ length c.args.text.now + 1) n.1 i.3,
     )
 
 pub push_span-requires : goal.push_span-requires

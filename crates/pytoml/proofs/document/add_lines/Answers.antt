@@ -20,7 +20,7 @@ lines-init g c = (
 pub returns-then-is_empty : goal.returns-then-is_empty
 returns-then-is_empty g c =
     let l = c.lines in
-    let (utf8, within, doc, stands, m, room, loop) = l.invariant in
+    let (utf8, within, doc, stands, m, capacity, loop) = l.invariant in
     let start_is = c.past_blank-start.ensures.rest in
     let none : length (skip_blank l.rest.now) ≡ 0 = grind (arith, common_steps) in
     let ended = loop ∙ lines_end m doc l.rest.now (omega arith) none in
@@ -29,7 +29,7 @@ returns-then-is_empty g c =
 pub lines-preserved : goal.lines-preserved
 lines-preserved g c =
     let l = c.lines in
-    let (utf8, within, doc, stands, m, room, loop) = l.invariant in
+    let (utf8, within, doc, stands, m, capacity, loop) = l.invariant in
     let start_is = c.past_blank-start.ensures.rest in
     let other : (length (skip_blank l.rest.now) == 0) ≡ false = grind (arith, common_steps) in
     let (e, next, read, defined, now) = c.in_ok-rest.ensures.adds doc stands in
@@ -39,6 +39,6 @@ lines-preserved g c =
       next,
       now,
       m - 1,
-      omega (arith, room, c.in_ok-rest.ensures.shorter, c.past_blank-start.ensures.within),
+      omega (arith, capacity, c.in_ok-rest.ensures.shorter, c.past_blank-start.ensures.within),
       loop ∙ lines_more m doc next l.rest.now e _ (omega arith) other read_here defined,
     )

@@ -17,7 +17,7 @@ array-items-init c c' = (search rules, le_refl _, λ n h. (n, h, rw c'.new-found
 pub array-returns-then-first-eq93-clause-value : goal.array-returns-then-first-eq93-clause-value
 array-returns-then-first-eq93-clause-value c c' n h =
     let l = c'.items in
-    let (m, room, loop) = l.invariant.2 n h in
+    let (m, capacity, loop) = l.invariant.2 n h in
     let start_is = c'.past_blank-start.ensures.rest in
     let closing : (first (skip_blank l.rest.now) == 93) ≡ true = grind (arith, common_steps) in
     loop ∙ items_end (val c'.args.depth) m _ l.rest.now (omega arith) closing ∙ rw (c'.skip.ensures.rest, start_is)
@@ -33,7 +33,7 @@ array-items-preserved c c' =
       search rules,
       omega (arith, l.invariant.1),
       λ n h.
-          let (m, room, loop) = l.invariant.2 n h in
+          let (m, capacity, loop) = l.invariant.2 n h in
           (m - 1, omega arith, loop ∙ items_more (val c'.args.depth) m _ l.rest.now _ _ _ (omega arith) other (rw start_is at c'.in_ok-item.ensures.value) c'.in_ok-rest.ensures.value ∙ rw (c'.in_ok-push.ensures.items, items_view-push c'.items.found.items c'.in_ok-item.item)),
     )
 
@@ -45,7 +45,7 @@ inline_table-members-init c c' =
 pub inline_table-returns-then-first-eq125-clause-value : goal.inline_table-returns-then-first-eq125-clause-value
 inline_table-returns-then-first-eq125-clause-value c c' n h =
     let l = c'.members in
-    let (m, room, loop) = l.invariant.4 n h in
+    let (m, capacity, loop) = l.invariant.4 n h in
     let start_is = c'.past_blank-start.ensures.rest in
     let closing : (first (skip_blank l.rest.now) == 125) ≡ true = grind (arith, common_steps) in
     loop ∙ members_end (val c'.args.depth) m l.invariant.2 l.rest.now (omega arith) closing ∙ rw (c'.skip.ensures.rest, start_is, l.invariant.3)
@@ -70,7 +70,7 @@ inline_table-members-preserved c c' =
       _,
       closes,
       λ n h.
-          let (m, room, loop) = l.invariant.4 n h in
+          let (m, capacity, loop) = l.invariant.4 n h in
           (m - 1, omega arith, loop ∙ members_more (val c'.args.depth) m l.invariant.2 _ l.rest.now key _ _ _ (omega arith) other read added c'.in_ok-rest.ensures.value),
     )
 

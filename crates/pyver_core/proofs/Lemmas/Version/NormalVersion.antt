@@ -109,30 +109,30 @@ parts_fit release pre post dev a b c d =
 plain_text : (ns : List ℕ) → release_text ns ++ [] ≡ normal_text (release_alone ns)
 plain_text ns = refl
 
-not_empty : (room : List ℕ) (count : ℕ) → 1 ≤ count → count ≤ length room → take count room ≢ []
-not_empty room zero some within is = absurd (omega arith)
+not_empty : (capacity : List ℕ) (count : ℕ) → 1 ≤ count → count ≤ length capacity → take count capacity ≢ []
+not_empty capacity zero some within is = absurd (omega arith)
 not_empty [] (suc n) some within is = absurd (omega arith)
-not_empty (m ∷ room) (suc n) some within is = absurd cc
+not_empty (m ∷ capacity) (suc n) some within is = absurd cc
 
 -- what is read of a text that begins with the release and ends there
-pub plain_is_read : (text rest room : List ℕ) (count : ℕ) → 1 ≤ count → count ≤ length room
-    → text ≡ release_text (take count room) ++ rest → length rest ≡ 0 → has_large (take count room) ≡ false
-    → (parsed_version text ≡ Ok (release_alone (take count room))) × (normal_text (release_alone (take count room)) ≡ text)
-    × (take count room ≢ [])
-plain_is_read text [] room count some within is empty fits =
-    let ns = take count room in
-    let release = not_empty room count some within in
+pub plain_is_read : (text rest capacity : List ℕ) (count : ℕ) → 1 ≤ count → count ≤ length capacity
+    → text ≡ release_text (take count capacity) ++ rest → length rest ≡ 0 → has_large (take count capacity) ≡ false
+    → (parsed_version text ≡ Ok (release_alone (take count capacity))) × (normal_text (release_alone (take count capacity)) ≡ text)
+    × (take count capacity ≢ [])
+plain_is_read text [] capacity count some within is empty fits =
+    let ns = take count capacity in
+    let release = not_empty capacity count some within in
     let normal : IsNormalVersion text (release_alone ns) = record { text_is = sym is; release = release; local = refl } in
     (normal_is_read text (release_alone ns) normal (parts_fit ns None None None fits refl refl refl), sym is, release)
-plain_is_read text (r ∷ rest) room count some within is empty fits = absurd (omega arith)
+plain_is_read text (r ∷ rest) capacity count some within is empty fits = absurd (omega arith)
 
 -- ---- the first number of a release
 
-pub first_alone : (text room : List ℕ) (n : ℕ) (rest : List ℕ) → 1 ≤ length room → text ≡ decimal_text n ++ rest
-    → text ≡ release_text (take 1 (set room 0 n)) ++ rest
+pub first_alone : (text capacity : List ℕ) (n : ℕ) (rest : List ℕ) → 1 ≤ length capacity → text ≡ decimal_text n ++ rest
+    → text ≡ release_text (take 1 (set capacity 0 n)) ++ rest
 first_alone text [] n rest some is = absurd (omega arith)
-first_alone text (m ∷ room) n rest some is = is ∙ ap (λ t. t ++ rest) (sym (append-nil (decimal_text n)))
+first_alone text (m ∷ capacity) n rest some is = is ∙ ap (λ t. t ++ rest) (sym (append-nil (decimal_text n)))
 
-pub first_fits : (room : List ℕ) (n : ℕ) → 1 ≤ length room → has_large (n ∷ []) ≡ false → has_large (take 1 (set room 0 n)) ≡ false
+pub first_fits : (capacity : List ℕ) (n : ℕ) → 1 ≤ length capacity → has_large (n ∷ []) ≡ false → has_large (take 1 (set capacity 0 n)) ≡ false
 first_fits [] n some fits = absurd (omega arith)
-first_fits (m ∷ room) n some fits = fits
+first_fits (m ∷ capacity) n some fits = fits

@@ -6,7 +6,7 @@ use Rattle.pyver_core.proofs.name.write_normal_name.Goals as goal
 
 pub loop-byte-init : goal.loop-byte-init
 loop-byte-init c =
-    record { within = lit≤ tt; room = refl; written = sym (normal_name-collapse c.as_bytes-bytes.result.now); behind = refl }
+    record { within = lit≤ tt; capacity = refl; written = sym (normal_name-collapse c.as_bytes-bytes.result.now); behind = refl }
 
 pub loop-byte-preserved : goal.loop-byte-preserved
 loop-byte-preserved c =
@@ -16,7 +16,7 @@ loop-byte-preserved c =
     let next : drop l.byte-index bytes ≡ get_or bytes l.byte-index 0 ∷ drop (l.byte-index + 1) bytes = drop_more bytes l.byte-index 0 here in
     record {
       within = omega arith;
-      room = c.add_byte-count.ensures.len ∙ l.invariant.room;
+      capacity = c.add_byte-count.ensures.len ∙ l.invariant.capacity;
       written = rw c.is_separator-in_run.ensures (written_more l.out c.add_byte-count.new.out (normal_name bytes) (drop l.byte-index bytes)
           (drop (l.byte-index + 1) bytes) l.in_run (get_or bytes l.byte-index 0) l.count c.add_byte-count.result next
           c.add_byte-count.ensures.front l.invariant.written);

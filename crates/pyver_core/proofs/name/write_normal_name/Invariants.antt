@@ -6,7 +6,7 @@ use Rattle.pyver_core.proofs.name.write_normal_name.Given as goal
 abbrev pub invariant-loop-byte : goal.invariant-loop-byte
 invariant-loop-byte l = record {
   within : l.count ≤ l.byte-index;
-  room : length l.out ≡ length l.initial.out;
+  capacity : length l.out ≡ length l.initial.out;
   written : take l.count l.out ++ collapse l.in_run (drop l.byte-index l.bytes) ≡ normal_name l.bytes;
   behind : drop l.count l.out ≡ drop l.count l.initial.out;
 }

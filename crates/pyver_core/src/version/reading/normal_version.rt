@@ -26,14 +26,14 @@ pub(crate) struct NormalVersion {
 /// The parts of which the text is the normal form; the room is for the numbers of the release.
 /// There may be such parts where this finds none.
 #[inline(always)]
-pub(crate) fn read_normal(bytes: &[u8], room: &mut [u128]) -> Option<NormalVersion>
-    requires { 1 ≤ length room.old }
-    ensures room { length room.new ≡ length room.old }
-    ensures within { IfSome result (λ p. p.count ≤ length room.new) }
-    ensures normal { IfSome result (λ p. IsNormalVersion bytes.now (normal_parts room.new p)) }
-    ensures fits { IfSome result (λ p. has_large (numbers (normal_parts room.new p)) ≡ false) }
+pub(crate) fn read_normal(bytes: &[u8], capacity: &mut [u128]) -> Option<NormalVersion>
+    requires { 1 ≤ length capacity.old }
+    ensures capacity { length capacity.new ≡ length capacity.old }
+    ensures within { IfSome result (λ p. p.count ≤ length capacity.new) }
+    ensures normal { IfSome result (λ p. IsNormalVersion bytes.now (normal_parts capacity.new p)) }
+    ensures fits { IfSome result (λ p. has_large (numbers (normal_parts capacity.new p)) ≡ false) }
 {
-    let (count, rest) = read_release(bytes, room)?;
+    let (count, rest) = read_release(bytes, capacity)?;
     let (pre, rest) = normal_pre(rest)?;
     let (post, rest) = normal_post(rest)?;
     let (dev, rest) = normal_dev(rest)?;
@@ -47,24 +47,24 @@ pub(crate) fn read_normal(bytes: &[u8], room: &mut [u128]) -> Option<NormalVersi
 
 /// Puts the numbers of a release in the room: how many these are, and the text behind them.
 #[inline(always)]
-pub(crate) fn read_release<'a>(bytes: &'a [u8], room: &mut [u128]) -> Option<(usize, &'a [u8])>
-    requires { 1 ≤ length room.old }
-    ensures room { length room.new ≡ length room.old }
+pub(crate) fn read_release<'a>(bytes: &'a [u8], capacity: &mut [u128]) -> Option<(usize, &'a [u8])>
+    requires { 1 ≤ length capacity.old }
+    ensures capacity { length capacity.new ≡ length capacity.old }
     ensures some { IfSome result (λ x. 1 ≤ x.0) }
-    ensures within { IfSome result (λ x. x.0 ≤ length room.new) }
+    ensures within { IfSome result (λ x. x.0 ≤ length capacity.new) }
     ensures text { IfSome result (λ x. bytes.now
-        ≡ release_text (take x.0 room.new) ++ x.1.now) }
-    ensures fits { IfSome result (λ x. has_large (take x.0 room.new) ≡ false) }
+        ≡ release_text (take x.0 capacity.new) ++ x.1.now) }
+    ensures fits { IfSome result (λ x. has_large (take x.0 capacity.new) ≡ false) }
 {
     let (first, behind) = normal_number(bytes)?;
-    room[0] = first;
+    capacity[0] = first;
     let mut count = 1;
     let mut rest = behind;
     while let Some((next, after)) = normal_dotted(rest) {
-        if count == room.len() {
+        if count == capacity.len() {
             return None;
         }
-        room[count] = next;
+        capacity[count] = next;
         count += 1;
         rest = after;
     }

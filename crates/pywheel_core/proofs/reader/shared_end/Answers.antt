@@ -11,5 +11,5 @@ returns-in-Some-clause-end c =
 pub returns-clause-kept : goal.returns-clause-kept
 returns-clause-kept c =
     rw c.in_ok-insert.ensures.entries
-    (gains_read end_in (λ e. end_value e.value) c.in_ok-text.text c.in_ok-clone-2.field-0 c.make_room.new.ends.entries (c.make_room.ensures.kept c.requires.kept)
+    (gains_read end_in (λ e. end_value e.value) c.in_ok-text.text c.in_ok-clone-2.field-0 c.reserve_capacity.new.ends.entries (c.reserve_capacity.ensures.kept c.requires.kept)
     (ap end_in c.in_ok-text.ensures.ok ∙ c.in-Ok.ensures ∙ ap (λ e. Ok (end_value e)) (sym c.in_ok-end-in-Ok.ensures.ok) ∙ sym (λ i. Ok (end_value (c.in_ok-clone-2.ensures.cases i)))))

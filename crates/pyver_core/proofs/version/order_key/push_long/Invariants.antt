@@ -2,11 +2,11 @@ use Rattle.std.proofs.Common.{◌≡◌, ◌++◌, ◌^◌, ◌<◌, ◌≤◌, 
 use Rattle.pyver_core.specs.Version.OrderKey.{number_key}
 use Rattle.pyver_core.proofs.version.order_key.push_long.Given as goal
 
--- the bytes that were taken off stand at the end of `low`, and there is room for those that are left
+-- the bytes that were taken off stand at the end of `low`, and there is capacity for those that are left
 pub record IsSplit (low : List ℕ) (start high : ℕ) : Type 0 where
   pub low_len : length low ≡ 16
   pub in_low : start ≤ 16
-  pub room : high < 256 ^ start
+  pub capacity : high < 256 ^ start
 
 -- what is written, the key of what is left, and the bytes that were taken off make the whole
 abbrev pub invariant-loop-high : goal.invariant-loop-high

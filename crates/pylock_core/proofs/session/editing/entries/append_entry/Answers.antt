@@ -9,7 +9,7 @@ use Rattle.pylock_core.proofs.Lemmas.Tables.Names.{length_more}
 use Rattle.pylock_core.proofs.Lemmas.Editing.Entries.{next_state, index_wider, living_wider, members_wider, on_err, set_last}
 use Rattle.pylock_core.proofs.Lemmas.Tables.TagSets.{sets_wider}
 use Rattle.pylock_core.proofs.Lemmas.Tables.Rows.{of_rows_wider}
-use Rattle.pylock_core.proofs.Lemmas.Parts.{shown_room}
+use Rattle.pylock_core.proofs.Lemmas.Parts.{shown_capacity}
 use Rattle.pylock_core.proofs.session.editing.entries.append_entry.Goals as goal
 
 pub write_entry-requires-clause-session : goal.write_entry-requires-clause-session
@@ -18,7 +18,7 @@ write_entry-requires-clause-session c =
     let s = c.in_ok-row.ensures.session in
     let entries = c.push_within-2.ensures.items ∙ ap (λ es. es ++ None ∷ []) c.in_ok-reserve.ensures.items in
     let rows = c.push_within.ensures.items ∙ ap (λ rs. rs ++ None ∷ []) c.in_ok-reserve-2.ensures.items in
-    let before : length p.entries.items < 100000 = rw (c.in_ok-row.ensures.entries, c.in_ok-sets.ensures.entries) c.requires.room in
+    let before : length p.entries.items < 100000 = rw (c.in_ok-row.ensures.entries, c.in_ok-sets.ensures.entries) c.requires.capacity in
     let long = ap length entries ∙ length_more p.entries.items None in
     record {
       few = omega (arith, before, long);
@@ -57,7 +57,7 @@ write_entry-requires-clause-within c =
 pub returns-in_err-reserve-2-clause-kept : goal.returns-in_err-reserve-2-clause-kept
 returns-in_err-reserve-2-clause-kept c =
     on_err _
-    (shown_room c.prepare_row.new.parts c.reserve.new.self c.reserve-2.new.self c.in_ok-reserve.ensures.items c.in_err-reserve-2.ensures.items ∙ c.in_ok-row.ensures.shown ∙ c.in_ok-sets.ensures.shown)
+    (shown_capacity c.prepare_row.new.parts c.reserve.new.self c.reserve-2.new.self c.in_ok-reserve.ensures.items c.in_err-reserve-2.ensures.items ∙ c.in_ok-row.ensures.shown ∙ c.in_ok-sets.ensures.shown)
 
 pub returns-clause-made : goal.returns-clause-made
 returns-clause-made c =
@@ -67,7 +67,7 @@ returns-clause-made c =
     let wider = c.push_within-2.new.items.items in
     let entries = c.push_within-2.ensures.items ∙ ap (λ es. es ++ None ∷ []) c.in_ok-reserve.ensures.items in
     let same = made.entries ∙ c.in_ok-sets.ensures.entries in
-    let before : length p.entries.items < 100000 = rw same c.requires.room in
+    let before : length p.entries.items < 100000 = rw same c.requires.capacity in
     let at : place ≡ length p.entries.items = c.len-place.ensures ∙ c.args.parts.now.entries.ok.0 ∙ ap length (sym same) in
     let more = ap (λ xs. set xs place (Some c.args.entry)) entries ∙ ap (λ k. set (p.entries.items ++ None ∷ []) k (Some c.args.entry)) at ∙ set_last p.entries.items None (Some c.args.entry) in
     let long = sym (length-set wider place (Some c.args.entry)) in

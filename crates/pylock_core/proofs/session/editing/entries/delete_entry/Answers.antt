@@ -2,7 +2,7 @@ use Rattle.std.proofs.Common.{◌∙◌, ap, sym, arith}
 use Rattle.std.proofs.lemmas.List.{append-nil}
 use Rattle.pylock_core.specs.Inner.Parts.{state_of}
 use Rattle.pylock_core.specs.Inner.Tables.TagSets.{set_number}
-use Rattle.pylock_core.proofs.Lemmas.Editing.Entries.{accepted_there, without_row, no_room}
+use Rattle.pylock_core.proofs.Lemmas.Editing.Entries.{accepted_there, without_row, no_capacity}
 use Rattle.pylock_core.proofs.Lemmas.Tables.Rows.{some_within}
 use Rattle.pylock_core.proofs.Lemmas.Tables.TagSets.{no_numbers}
 use Rattle.pylock_core.proofs.session.editing.entries.delete_entry.Goals as goal
@@ -11,7 +11,7 @@ pub write_entry-requires-clause-within : goal.write_entry-requires-clause-within
 write_entry-requires-clause-within c = some_within c.args.parts.now.entries.items c.in_ok-place.place c.in_ok-place.ensures.there
 
 pub write_entry-requires-clause-index : goal.write_entry-requires-clause-index
-write_entry-requires-clause-index c = no_room c.args.parts.now.index
+write_entry-requires-clause-index c = no_capacity c.args.parts.now.index
 
 pub write_entry-requires-clause-sets : goal.write_entry-requires-clause-sets
 write_entry-requires-clause-sets c = no_numbers (set_number c.args.parts.now.sets) c.new.result.items c.new.ensures.items

@@ -1,7 +1,7 @@
 use Rattle.std.proofs.Common.{◌≡◌, ◌∙◌, List, ap, subst, sym}
 use Rattle.std.proofs.lemmas.List.{get_or_default}
 use Rattle.pylock_core.specs.Inner.Parts.{IsSession, NumberFits, shown}
-use Rattle.pylock_core.specs.Inner.Tables.Index.{HaveRoom}
+use Rattle.pylock_core.specs.Inner.Tables.Index.{HaveCapacity}
 use Rattle.pylock_core.specs.Inner.Tables.Names.{policy_at}
 use Rattle.pylock_core.specs.Session.Judgement.{verdict_of}
 use Rattle.pylock_core.specs.declared.edit.Policy.{Policy}
@@ -22,10 +22,10 @@ numbered c =
     session_conditions p kept (fits_are kept.count p.entries.items p.rows.items c.args.entry.now number fits) c.requires
 
 -- the names have room, and what is shown stays
-roomy : (c : After-reserve_member) → IsSession (record c.args.parts.now { conditions = c.number_of_condition-condition.new.conditions; names = c.number_of.new.names })
+ample : (c : After-reserve_member) → IsSession (record c.args.parts.now { conditions = c.number_of_condition-condition.new.conditions; names = c.number_of.new.names })
     → IsSession (record c.args.parts.now { conditions = c.number_of_condition-condition.new.conditions; index = c.reserve_in_lists.new.lists; names = c.reserve_member.new.names })
     × (shown (record c.args.parts.now { conditions = c.number_of_condition-condition.new.conditions; index = c.reserve_in_lists.new.lists; names = c.reserve_member.new.names }) ≡ shown c.args.parts.now)
-roomy c s =
+ample c s =
     let p = record c.args.parts.now { conditions = c.number_of_condition-condition.new.conditions; names = c.number_of.new.names } in
     let lists = c.reserve_in_lists.new.lists in
     let kept = same_kept p.names c.reserve_member.new.names c.reserve_member.ensures.same c.reserve_member.ensures.members in (
@@ -57,12 +57,12 @@ reserve_member-requires-clause-within c = c.in_ok-name.ensures.kept.is.numbering
 
 pub returns-in_err-reserve_member-clause-session : goal.returns-in_err-reserve_member-clause-session
 returns-in_err-reserve_member-clause-session c =
-    (roomy (goal.at.returns-in_err-reserve_member-clause-session c).After-reserve_member
+    (ample (goal.at.returns-in_err-reserve_member-clause-session c).After-reserve_member
     (session_kept _ c.number_of.new.names c.in_ok-name.ensures.kept (numbered (goal.at.returns-in_err-reserve_member-clause-session c).After-number_of_condition-condition))).0
 
 pub returns-in_err-reserve_member-clause-shown : goal.returns-in_err-reserve_member-clause-shown
 returns-in_err-reserve_member-clause-shown c =
-    (roomy (goal.at.returns-in_err-reserve_member-clause-shown c).After-reserve_member
+    (ample (goal.at.returns-in_err-reserve_member-clause-shown c).After-reserve_member
     (session_kept _ c.number_of.new.names c.in_ok-name.ensures.kept (numbered (goal.at.returns-in_err-reserve_member-clause-shown c).After-number_of_condition-condition))).1
 
 pub returns-clause-judged : goal.returns-clause-judged
@@ -74,14 +74,14 @@ returns-clause-judged c =
     (c.in_ok-verdict.ensures.verdict ∙ ap (verdict_of c.args.entry.now p.environment p.tags) (c.index.ensures ∙ get_or_default policies c.in_ok-name.name c.index.result.now Any within))
 
 pub returns-clause-index : goal.returns-clause-index
-returns-clause-index c = subst (λ is. HaveRoom c.reserve_in_lists.new.lists is 0) c.entry_keys.ensures c.in_ok-reserve_in_lists.ensures.room
+returns-clause-index c = subst (λ is. HaveCapacity c.reserve_in_lists.new.lists is 0) c.entry_keys.ensures c.in_ok-reserve_in_lists.ensures.capacity
 
 pub returns-clause-session : goal.returns-clause-session
 returns-clause-session c =
-    (roomy (goal.at.returns-clause-session c).After-reserve_member
+    (ample (goal.at.returns-clause-session c).After-reserve_member
     (session_kept _ c.number_of.new.names c.in_ok-name.ensures.kept (numbered (goal.at.returns-clause-session c).After-number_of_condition-condition))).0
 
 pub returns-clause-shown : goal.returns-clause-shown
 returns-clause-shown c =
-    (roomy (goal.at.returns-clause-shown c).After-reserve_member
+    (ample (goal.at.returns-clause-shown c).After-reserve_member
     (session_kept _ c.number_of.new.names c.in_ok-name.ensures.kept (numbered (goal.at.returns-clause-shown c).After-number_of_condition-condition))).1

@@ -1,19 +1,19 @@
 use Rattle.std.proofs.Common.{◌∙◌, is_some, ◌+◌, ◌<◌, ◌≤◌, length, IfSome, subst, ap, sym, arith}
 use Rattle.std.proofs.lemmas.List.{length-set}
-use Rattle.pylock_core.specs.Inner.Tables.Index.{HaveRoom, list_at, moved}
+use Rattle.pylock_core.specs.Inner.Tables.Index.{HaveCapacity, list_at, moved}
 use Rattle.pylock_core.specs.Session.State.{Rises, in_rows}
-use Rattle.pylock_core.specs.Inner.Tables.Names.{HasRoom, is_at}
+use Rattle.pylock_core.specs.Inner.Tables.Names.{HasCapacity, is_at}
 use Rattle.pylock_core.specs.Inner.Parts.{AreLiving, AreMembers, IsIndex, IsJudged, IsNamed, state_of}
 use Rattle.pylock_core.specs.Inner.Tables.TagSets.{AreSets}
 use Rattle.pylock_core.proofs.Lemmas.Tables.Conditions.{row_numbered}
 use Rattle.pylock_core.proofs.Lemmas.Tables.Rows.{of_rows_set}
 use Rattle.pylock_core.proofs.Lemmas.Parts.{session_even, both_named_as, rows_named_as}
-use Rattle.pylock_core.proofs.Lemmas.Editing.Entries.{both_at, index_rises, index_written, living_rises, living_written, members_written, old_at, row_below, row_name, row_rises, row_room}
+use Rattle.pylock_core.proofs.Lemmas.Editing.Entries.{both_at, index_rises, index_written, living_rises, living_written, members_written, old_at, row_below, row_name, row_rises, row_capacity}
 use Rattle.pylock_core.proofs.Lemmas.Tables.TagSets.{sets_written}
 use Rattle.pylock_core.proofs.session.editing.entries.write_entry.Goals as goal
 
-pub move_in_lists-requires-clause-room : goal.move_in_lists-requires-clause-room
-move_in_lists-requires-clause-room c = subst (λ is. HaveRoom c.args.parts.now.index is 0) (sym c.keys_at-is.ensures) c.requires.index
+pub move_in_lists-requires-clause-capacity : goal.move_in_lists-requires-clause-capacity
+move_in_lists-requires-clause-capacity c = subst (λ is. HaveCapacity c.args.parts.now.index is 0) (sym c.keys_at-is.ensures) c.requires.index
 
 pub move_in_lists-requires-clause-rise : goal.move_in_lists-requires-clause-rise
 move_in_lists-requires-clause-rise c = index_rises c.args.parts.now.index c.args.parts.now.head c.args.parts.now.entries.items c.requires.session.index
@@ -30,7 +30,7 @@ move_member-requires c =
       names = s.names;
       was = subst (λ o. IfSome o (λ n. n < length p.names.policies.items)) (sym c.name_of-was.ensures) (row_below p.names c.index.result.now c.index-2.result.now s.names before);
       is = subst (λ o. IfSome o (λ n. n < length p.names.policies.items)) (sym c.name_of.ensures) (row_below p.names c.args.entry c.args.row s.names c.requires.named);
-      room = subst (λ o. IfSome o (λ n. HasRoom p.names n)) (sym c.name_of.ensures) (row_room p.names c.args.row c.requires.name);
+      capacity = subst (λ o. IfSome o (λ n. HasCapacity p.names n)) (sym c.name_of.ensures) (row_capacity p.names c.args.row c.requires.name);
       was_rises = subst (λ o. IfSome o (λ n. Rises 0 (list_at p.names.members.items n))) (sym c.name_of-was.ensures) (row_rises p.names p.entries.items c.index.result.now c.index-2.result.now s.members before);
       is_rises = subst (λ o. IfSome o (λ n. Rises 0 (list_at p.names.members.items n))) (sym c.name_of.ensures) (row_rises p.names p.entries.items c.args.entry c.args.row s.members c.requires.named);
     }

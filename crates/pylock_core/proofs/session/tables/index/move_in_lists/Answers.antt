@@ -23,5 +23,5 @@ loop-key-preserved c =
       changed = λ k less. changed_at c.loop-key.lists c.args.lists.now key k _ c.index-lists-key.result f within less c.move_in_list.ensures (c.loop-key.invariant.others key (omega arith)) (c.loop-key.invariant.changed k);
       others = λ k above. list_at_other c.loop-key.lists key k _ (λ same. omega arith) ∙ c.loop-key.invariant.others k (omega arith);
       long = length-set c.loop-key.lists key _ ∙ c.loop-key.invariant.long;
-      room = λ k d above below comes. rw (get_or-set_other c.loop-key.lists key k _ d (λ same. omega arith)) (c.loop-key.invariant.room k d (omega arith) below comes);
+      capacity = λ k d above below comes. rw (get_or-set_other c.loop-key.lists key k _ d (λ same. omega arith)) (c.loop-key.invariant.capacity k d (omega arith) below comes);
     }

@@ -8,5 +8,5 @@ use Rattle.pylock_core.proofs.session.tables.index.reserve_in_lists.Given as goa
 abbrev pub invariant-loop-key : goal.invariant-loop-key
 invariant-loop-key l = record {
   kept : numbers_in l.lists ≡ numbers_in l.fn.lists;
-  room : (key : ℕ) (d : Vec ℕ Global) → key < l.key → IsTrue (slice_index_or l.keys key false) → vec_len (slice_index_or l.lists key d) < vec_capacity (slice_index_or l.lists key d);
+  capacity : (key : ℕ) (d : Vec ℕ Global) → key < l.key → IsTrue (slice_index_or l.keys key false) → vec_len (slice_index_or l.lists key d) < vec_capacity (slice_index_or l.lists key d);
 }

@@ -6,10 +6,10 @@ use Rattle.pyver_core.proofs.version.reading.normal_version.read_release.Given a
 abbrev pub invariant-loop-next : goal.invariant-loop-next
 invariant-loop-next l = record {
   some : 1 ≤ l.count;
-  few : l.count ≤ length l.room;
-  room : length l.room ≡ length l.initial.room;
-  fits : has_large (take l.count l.room) ≡ false;
-  text : l.bytes ≡ release_text (take l.count l.room) ++ l.rest;
+  few : l.count ≤ length l.capacity;
+  capacity : length l.capacity ≡ length l.initial.capacity;
+  fits : has_large (take l.count l.capacity) ≡ false;
+  text : l.bytes ≡ release_text (take l.count l.capacity) ++ l.rest;
 }
 
 abbrev pub decreases-loop-next : goal.decreases-loop-next

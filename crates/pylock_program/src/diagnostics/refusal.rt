@@ -1,0 +1,68 @@
+//! Diagnostics of a lock or an environment that is refused, and of findings that are.
+
+use crate::file::{FileBytes, Inputs, MachineInput};
+use crate::opening::Unopened;
+use pylock_core::EnvError;
+use pylock_messages::{
+    Diagnostic, begins_like_json, environment_diagnostic, lock_diagnostic, target_diagnostic,
+};
+use pylock_run::OpenError;
+use std::alloc::{AllocError, Global};
+
+/// Why there is no session on what was read.
+pub(crate) fn unopened_diagnostic(
+    alloc: Global,
+    unopened: &Unopened,
+    inputs: Inputs<'_>,
+) -> Result<Option<Diagnostic>, AllocError> {
+    let (lock, machine) = (inputs.lock, inputs.machine);
+    match unopened {
+        Unopened::Findings(_) => findings_diagnostic(alloc, lock),
+        Unopened::Refused(OpenError::Lock(error)) => {
+            let diagnostic = lock_diagnostic(alloc, lock.path, &lock.bytes, error)?;
+            beside_file(alloc, diagnostic, inputs)
+        }
+        Unopened::Refused(OpenError::Environment(error)) => {
+            environment_refusal(alloc, error, machine)
+        }
+        Unopened::Refused(OpenError::Memory) => Ok(None),
+    }
+}
+
+/// What is told of a lock that stands beside the file of an environment: where it seems to be one
+/// itself, that the two may be swapped.
+fn beside_file(
+    alloc: Global,
+    diagnostic: Option<Diagnostic>,
+    inputs: Inputs<'_>,
+) -> Result<Option<Diagnostic>, AllocError> {
+    match (diagnostic, inputs.machine) {
+        (Some(diagnostic), MachineInput::File(_)) if begins_like_json(&inputs.lock.bytes) => {
+            Ok(Some(diagnostic.followed_by(alloc, "LOCK and ENV may be swapped")?))
+        }
+        (diagnostic, _) => Ok(diagnostic),
+    }
+}
+
+fn findings_diagnostic(
+    alloc: Global,
+    lock: &FileBytes<'_>,
+) -> Result<Option<Diagnostic>, AllocError> {
+    let path = lock.path;
+    let note = format!(in alloc; "--strict refuses what audit found in {path}")?;
+    Ok(Some(Diagnostic::of_message(alloc, note.as_str())?))
+}
+
+/// Where an environment is wrong that is refused so, or which word of a target.
+pub(crate) fn environment_refusal(
+    alloc: Global,
+    error: &EnvError,
+    machine: &MachineInput<'_>,
+) -> Result<Option<Diagnostic>, AllocError> {
+    match machine {
+        MachineInput::File(file) => environment_diagnostic(alloc, file.path, &file.bytes, error),
+        MachineInput::Target(target) => {
+            target_diagnostic(alloc, target.python, target.platform, error)
+        }
+    }
+}
