@@ -207,7 +207,7 @@ fn entry_names(alloc: Global, session: &Session) -> Result<Vec<NormalName>, Allo
     let mut names = Vec::with_capacity(alloc, session.entries().len())?;
     for entry in session.entries() {
         if let Some(entry) = entry {
-            names.push(NormalName::new(alloc, entry.name())?)?;
+            names.push(entry.normal_name().clone()?)?;
         }
     }
     Ok(names)

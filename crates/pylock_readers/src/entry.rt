@@ -1,6 +1,7 @@
 //! The entries of a lock and their sources (PEP 751, `packages`).
 ghost use Rattle.std.specs.Prelude.{◌≡◌};
 ghost use Rattle.std.specs.Option.{option_copied};
+ghost use Rattle.pyver_core.specs.Name.{normal_name};
 ghost use Rattle.pylock_readers.specs.Entry.{wheel_names};
 
 mod archive;
@@ -20,7 +21,7 @@ pub use directory::Directory;
 pub use file::{DistributionFile, Sdist, WheelFile};
 pub use file_name::{file_name_of, path_file_name, url_file_name};
 use pymark_core::Marker;
-use pyver_core::SpecifierSet;
+use pyver_core::{NormalName, SpecifierSet};
 use pywheel_core::WheelName;
 pub(crate) use read::read_entry;
 use sources::Sources;
@@ -30,7 +31,7 @@ pub use vcs::Vcs;
 
 /// A package of the lock (PEP 751, `packages`).
 pub struct Entry {
-    name: String,
+    name: NormalName,
     version: Option<String>,
     sources: Sources,
     marker: Option<Marker>,
@@ -48,7 +49,7 @@ impl Model for Entry {
     ghost coded = { Prim.hlevel (codes, marker_code) };
 
     ghost view = { λ e. record {
-      name = string_bytes e.name;
+      name = e.name;
       version = option_map string_bytes e.version;
       vcs = e.sources.vcs;
       directory = e.sources.directory;
@@ -78,6 +79,15 @@ impl Entry {
         ensures { result.now ≡ self.now.name }
     {
         self.name.as_str()
+    }
+
+    /// The same name, whose type says that it is in normal form.
+    pub fn normal_name(&self) -> &NormalName
+        ensures name { result.now ≡ self.now.name }
+        ensures normal { normal_name self.now.name ≡ self.now.name }
+    {
+        let _ = self.name.as_str();
+        &self.name
     }
 
     /// The key `version`, as written.

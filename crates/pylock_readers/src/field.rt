@@ -117,14 +117,14 @@ pub(crate) fn into_table(value: Value) -> Result<Table, FieldError>
 }
 
 /// A name, in normal form.
-pub(crate) fn into_name(alloc: Global, value: Value) -> Result<String, FieldError>
-    ensures { Gives FieldError.Memory string_bytes result (name_of (view value)) }
+pub(crate) fn into_name(alloc: Global, value: Value) -> Result<NormalName, FieldError>
+    ensures { Gives FieldError.Memory (λ name. name) result (name_of (view value)) }
 {
     let text = into_text(value)?;
     if !is_name(text.as_str()) {
         return Err(FieldError::Wrong);
     }
-    Ok(NormalName::from_string(alloc, text)?.into_string())
+    Ok(NormalName::from_string(alloc, text)?)
 }
 
 /// A text that has to be there.

@@ -8,7 +8,6 @@ ghost use Rattle.pylock_core.specs.Inner.KeptEnvironment.{LeadsFrom, changed_by}
 
 use pymark_core::{Change, Environment, Key};
 use pytext::Text;
-use pyver_core::NormalName;
 use std::alloc::{AllocError, Global};
 use std::marker::Model;
 use std::mem;
@@ -151,10 +150,10 @@ fn copy_of(alloc: Global, change: &Change) -> Result<Change, AllocError>
     Ok(match change {
         Change::Set(variable, text) => Change::Set(*variable, Text::copy_of(alloc, text.as_str())?),
         Change::Unset(variable) => Change::Unset(*variable),
-        Change::AddExtra(name) => Change::AddExtra(NormalName::new(alloc, name.as_str())?),
-        Change::DropExtra(name) => Change::DropExtra(NormalName::new(alloc, name.as_str())?),
-        Change::AddGroup(name) => Change::AddGroup(NormalName::new(alloc, name.as_str())?),
-        Change::DropGroup(name) => Change::DropGroup(NormalName::new(alloc, name.as_str())?),
+        Change::AddExtra(name) => Change::AddExtra(name.clone()?),
+        Change::DropExtra(name) => Change::DropExtra(name.clone()?),
+        Change::AddGroup(name) => Change::AddGroup(name.clone()?),
+        Change::DropGroup(name) => Change::DropGroup(name.clone()?),
     })
 }
 

@@ -13,7 +13,7 @@ use crate::field::{into_name, into_text, optional_field, optional_text, or_refus
 use crate::interner::Interner;
 use pymark_core::Marker;
 use pytoml::{TomlError, read_value};
-use pyver_core::SpecifierSet;
+use pyver_core::{NormalName, SpecifierSet};
 use std::alloc::Global;
 use std::rc::Rc;
 use toml::{Table, Value};
@@ -78,8 +78,8 @@ fn require_table(value: Value) -> Result<Table, EntryError>
     }
 }
 
-fn read_name(alloc: Global, field: Option<Value>) -> Result<String, EntryError>
-    ensures { Gives EntryError.Memory string_bytes result (name_in (option_map view field)) }
+fn read_name(alloc: Global, field: Option<Value>) -> Result<NormalName, EntryError>
+    ensures { Gives EntryError.Memory (λ name. name) result (name_in (option_map view field)) }
 {
     let value = field.ok_or(EntryError::Name)?;
     or_refused(EntryError::Name, into_name(alloc, value))

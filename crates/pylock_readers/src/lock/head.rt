@@ -188,7 +188,7 @@ fn read_names(alloc: Global, values: Vec<Value>) -> Result<Vec<String>, FieldErr
 {
     let mut names = Vec::with_capacity(alloc, values.len())?;
     for value in values {
-        names.push(into_name(alloc, value)?)?;
+        names.push(into_name(alloc, value)?.into_string())?;
     }
     Ok(names)
 }

@@ -30,6 +30,17 @@ impl Drop for NormalName {
     }
 }
 
+/// A copy takes the memory of its text.
+impl Clone for NormalName {
+    ghost is_clone = { λ name copy. copy ≡ name };
+
+    fn clone(&self) -> Result<NormalName, AllocError> {
+        Ok(NormalName {
+            text: self.text.clone()?,
+        })
+    }
+}
+
 impl NormalName {
     /// The normal form of any text, as [`normal_name`] makes it. It takes the memory of one text as
     /// long as the given one.
