@@ -1,6 +1,6 @@
 -- Rows and texts in order, seen by the bytes of texts that are lent.
 use Rattle.std.proofs.Common.{Ordering, Less, Equal, Greater, ◌≡◌, ◌∙◌, ℕ, ◌+◌, ◌<◌, ◌≤◌, Bool, true, false, cond, Bor, List, [], ◌∷◌, ◌++◌, length, map, drop, take, get_or, refl, sym, ap, append_assoc}
-use Rattle.std.proofs.lemmas.List.{drop_more, take_all}
+use Rattle.std.proofs.lemmas.List.{drop_more}
 use Rattle.std.proofs.lemmas.List.Folds.{flat_map-map}
 use Rattle.std.specs.BTreeSet.{insert_key}
 use Rattle.std.specs.Cmp.Lexicographic.{slice_cmp}
@@ -86,17 +86,6 @@ module _ {V W C : Type 0} (view : V → W) (told : List ℕ → List W → List 
   told_seen names from to =
       each_seen from to sides.names.items
       ∙ ap (flat_map one) (names ∙ (λ i. in_order (names_seen view olds i ++ names_seen view news i)))
-
-  -- the same at the end of a loop over the names
-  pub told_all : (names : List (Bor (List ℕ))) (i : ℕ) (start after : List C)
-      → after ≡ start ++ each_told view told sides (take i names) → length names ≤ i → names ≡ sides.names.items
-      → lent_texts sides.names.items ≡ in_order (names_of (lent_rows olds) ++ names_of (lent_rows news))
-      → ((name : List ℕ) → found sides.olds name ≡ values_at name (lent_rows olds)) → ((name : List ℕ) → found sides.news name ≡ values_at name (lent_rows news))
-      → after ≡ start ++ under_each told (map (λ row. (row.0.now, view row.1)) olds) (map (λ row. (row.0.now, view row.1)) news)
-  told_all names i start after so_far end all whole from to =
-      so_far
-      ∙ ap (λ names. start ++ each_told view told sides names) (take_all i names end ∙ all)
-      ∙ ap (λ more. start ++ more) (told_seen whole from to)
 
 -- ---- what is told in turn
 

@@ -63,9 +63,6 @@ module _ (known : List ItemValue) (item : ItemValue) where
 
 -- by the sets of what the other lock has
 module _ (others : Others) (known : List ItemValue) (are : AreOthers others known) (item : ItemValue) where
-  pub without_version : contains texts_cmp others.versions (version_key item ∷ []) ≡ false → lone_in known item ≡ []
-  without_version none = no_version known item (sym (are.versions (version_key item ∷ [])) ∙ none)
-
   pub with_set : contains texts_cmp others.versions (version_key item ∷ []) ≡ true → (set : BTreeSet Texts)
       → get texts_cmp others.sources (condition_key item) ≡ Some set
       → filter (λ source. not (contains texts_cmp set (identity source))) item.sources ≡ lone_in known item

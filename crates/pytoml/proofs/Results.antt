@@ -3,10 +3,6 @@ use Rattle.std.proofs.Common.{◌≡◌, Option, Some, None, ap, subst}
 use Rattle.std.specs.Prelude.{Result, Ok, Err, IfOk, OnOk}
 use Rattle.std.proofs.lemmas.Option.{none-some}
 
-pub on_both_ok : {T E P Q R : Type 0} (r : Result T E) → (P → Q → R) → OnOk r P → OnOk r Q → OnOk r R
-on_both_ok (Ok x) f p q = f p q
-on_both_ok (Err e) f p q = tt
-
 pub on_ok_then : {T E P R : Type 0} (r : Result T E) → (P → R) → OnOk r P → OnOk r R
 on_ok_then (Ok x) f p = f p
 on_ok_then (Err e) f p = tt

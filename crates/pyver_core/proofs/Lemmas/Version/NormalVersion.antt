@@ -43,12 +43,6 @@ release_more (m ∷ ns) n some =
     ap (λ t. decimal_text m ++ t) (flat_map-append dotted_number ns (n ∷ []) ∙ ap (λ t. flat_map dotted_number ns ++ t) (append-nil (dotted_number n)))
     ∙ sym (append_assoc (decimal_text m) (flat_map dotted_number ns) (dotted_number n))
 
-pub number_more : (text ns : List ℕ) (n : ℕ) (between rest : List ℕ) → 1 ≤ length ns
-    → text ≡ release_text ns ++ between → between ≡ dotted_number n ++ rest → text ≡ release_text (ns ++ n ∷ []) ++ rest
-number_more text ns n between rest some is next =
-    is ∙ ap (λ t. release_text ns ++ t) next ∙ sym (append_assoc (release_text ns) (dotted_number n) rest)
-    ∙ ap (λ t. t ++ rest) (sym (release_more ns n some))
-
 -- ---- the whole text
 
 release_is : (ns : List ℕ) → ns ≢ [] → IsRelease (release_text ns) ns
