@@ -2,6 +2,6 @@
 pub mod Conditions
 pub mod Index
 pub mod Names
-pub mod Room
+pub mod Capacity
 pub mod Rows
 pub mod TagSets
