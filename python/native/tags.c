@@ -515,7 +515,6 @@ static PyObject *parse_tag(PyObject *module, PyObject *const *arguments, Py_ssiz
     if (tags != NULL && !is_checked && !has_order(state, text)) Py_CLEAR(tags);
     return tags;
 }
-TAKES_NAMES(parse_tag)
 
 /* ---- names of platforms ---- */
 
@@ -553,7 +552,6 @@ static PyObject *numbered(PyObject *module, PyObject *const *arguments, Py_ssize
     if (is_good) text_done(&behind);
     return texts;
 }
-TAKES_TUPLE(numbered)
 
 static PyMethodDef tag_functions[] = {
     CALL("numbered", numbered, "The texts with the numbers from one down to another one between two texts."),

@@ -771,7 +771,6 @@ static PyObject *from_parts(PyObject *self, PyObject *const *arguments, Py_ssize
     if (version != NULL || PyErr_Occurred()) return version;
     return asked_of_layer("from_parts", self, arguments, count, names);
 }
-TAKES_NAMES(from_parts)
 
 /* Whether as many parts are there as the version has, so that they may be its own. */
 static bool has_such_parts(const Version *version, PyObject *const *parts)
@@ -814,7 +813,6 @@ static PyObject *version_replace(PyObject *self, PyObject *const *arguments, Py_
     }
     return PyErr_Occurred() ? NULL : asked_of_layer("replaced", self, arguments, count, names);
 }
-TAKES_NAMES(version_replace)
 
 /* A version can't be changed: a copy is the version itself. */
 static PyObject *version_copy(PyObject *self, PyObject *memo)
@@ -948,7 +946,6 @@ static PyObject *canonicalize_version(PyObject *module, PyObject *const *argumen
     PyObject *item = one_and_flag(&signature, arguments, count, names, &strip);
     return item == NULL ? NULL : canonical_version(state_of(module), item, strip);
 }
-TAKES_NAMES(canonicalize_version)
 
 /* The words of PEP 440 that aren't normal, and the normal ones. */
 static const char *const spellings[][2] = {
