@@ -244,6 +244,7 @@ static PyMethodDef functions[] = {
     word(state->set_class);                                                                                              \
     word(state->abstract_class);                                                                                         \
     word(state->operators);                                                                                              \
+    word(state->letters);                                                                                                \
     word(state->marker_class);                                                                                           \
     word(state->refuse);                                                                                                 \
     word(state->refuse_input);                                                                                           \

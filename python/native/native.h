@@ -132,8 +132,8 @@ typedef struct {
     PyTypeObject *version_class, *tag_class, *specifier_class, *set_class, *marker_class;
     /* the abstract class of specifiers and sets, or NULL */
     PyObject *abstract_class;
-    /* the operators of specifiers: a tuple */
-    PyObject *operators;
+    /* the operators of specifiers and the letters of pre-releases: tuples */
+    PyObject *operators, *letters;
     /* Python functions that tell the exception of a code, or NULL; and what the first has told, by its number */
     PyObject *refuse, *refuse_input, *refusals[MOST_REFUSALS];
     /* by the hashes of their texts */
