@@ -73,22 +73,16 @@ class DependencyGroupInclude:
 _Item = Union[Requirement, DependencyGroupInclude]
 
 
-def _by_name(groups: _Groups) -> Dict[str, Sequence[Union[str, Mapping[str, str]]]]:
-    """The groups by their normal names, of which no two may be the same."""
-    names: Dict[str, str] = {}
-    several: Dict[str, List[str]] = {}
+def _several_names(groups: _Groups) -> Exception:
+    """What is wrong with groups of which several have one normal name."""
+    given: Dict[str, List[str]] = {}
     for name in groups:
-        normal = canonicalize_name(name)
-        if normal in names:
-            several.setdefault(normal, [names[normal]]).append(name)
-        else:
-            names[normal] = name
-    if several:
-        errors = [
-            DuplicateGroupNames(f"dependency group {normal} has several names: {', '.join(its)}") for normal, its in several.items()
-        ]
-        raise ExceptionGroup("several dependency groups have one name", errors)
-    return {normal: groups[name] for normal, name in names.items()}
+        given.setdefault(canonicalize_name(name), []).append(name)
+    errors = []
+    for normal, names in given.items():
+        if len(names) > 1:
+            errors.append(DuplicateGroupNames(f"dependency group {normal} has several names: {', '.join(names)}"))
+    return ExceptionGroup("several dependency groups have one name", errors)
 
 
 class DependencyGroupResolver:
@@ -104,7 +98,11 @@ class DependencyGroupResolver:
     """
 
     def __init__(self, dependency_groups: _Groups) -> None:
-        self.dependency_groups = _by_name(dependency_groups)
+        self.dependency_groups: Dict[str, Sequence[Union[str, Mapping[str, str]]]] = {}
+        for name in dependency_groups:
+            self.dependency_groups[canonicalize_name(name)] = dependency_groups[name]
+        if len(self.dependency_groups) < len(dependency_groups):
+            raise _several_names(dependency_groups)
         # of groups in which nothing is wrong, what was read of them
         self._read: Dict[str, Tuple[_Item, ...]] = {}
         self._resolved: Dict[str, Tuple[Requirement, ...]] = {}
