@@ -98,11 +98,13 @@ class DependencyGroupResolver:
     """
 
     def __init__(self, dependency_groups: _Groups) -> None:
-        self.dependency_groups: Dict[str, Sequence[Union[str, Mapping[str, str]]]] = {}
+        by_name: Dict[str, Sequence[Union[str, Mapping[str, str]]]] = {}
         for name in dependency_groups:
-            self.dependency_groups[canonicalize_name(name)] = dependency_groups[name]
-        if len(self.dependency_groups) < len(dependency_groups):
-            raise _several_names(dependency_groups)
+            normal = canonicalize_name(name)
+            if normal in by_name:
+                raise _several_names(dependency_groups)
+            by_name[normal] = dependency_groups[name]
+        self.dependency_groups = by_name
         # of groups in which nothing is wrong, what was read of them
         self._read: Dict[str, Tuple[_Item, ...]] = {}
         self._resolved: Dict[str, Tuple[Requirement, ...]] = {}
