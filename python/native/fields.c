@@ -256,7 +256,6 @@ static PyObject *field_method(PyObject *module, PyObject *const *arguments, Py_s
     if (!take_defaults(method, arguments[4])) Py_CLEAR(method);
     return (PyObject *)method;
 }
-TAKES_TUPLE(field_method)
 
 static PyMethodDef field_functions[] = {
     CALL("field_method", field_method, "A method of a frozen dataclass."),

@@ -157,12 +157,6 @@ PyObject *judge_filter(PyObject *self, PyObject *const *arguments, Py_ssize_t co
     let_go(iterable);
     return filter;
 }
-#if !NATIVE_IS_MODERN
-PyObject *judge_filter_of_tuple(PyObject *self, PyObject *tuple, PyObject *named)
-{
-    return call_of_names(judge_filter, self, tuple, named);
-}
-#endif
 
 static int filter_traverse(PyObject *self, visitproc visit, void *arg)
 {

@@ -277,12 +277,6 @@ PyObject *judge_contains(PyObject *self, PyObject *const *arguments, Py_ssize_t 
     let_go(item);
     return told < 0 ? NULL : PyBool_FromLong(told);
 }
-#if !NATIVE_IS_MODERN
-PyObject *judge_contains_of_tuple(PyObject *self, PyObject *tuple, PyObject *named)
-{
-    return call_of_names(judge_contains, self, tuple, named);
-}
-#endif
 
 /* A class of one's own may say otherwise what `contains` is. */
 int judge_in(PyObject *self, PyObject *item)

@@ -150,7 +150,6 @@ static PyObject *environment_target(PyObject *module, PyObject *const *arguments
     raise_refusal(state, code, arguments[code != PYLOCK_TARGET_PYTHON], "target");
     return NULL;
 }
-TAKES_TUPLE(environment_target)
 
 static PyMethodDef kept_functions[] = {
     {"environment_read", environment_read, METH_O, PyDoc_STR("The environment of a JSON text, with nothing asked for.")},

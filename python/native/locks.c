@@ -29,13 +29,11 @@ static PyObject *files(PyObject *module, PyObject *const *arguments, Py_ssize_t 
 {
     return report_of(module, arguments, count, "files", pylock_files);
 }
-TAKES_TUPLE(files)
 
 static PyObject *audit(PyObject *module, PyObject *const *arguments, Py_ssize_t count)
 {
     return report_of(module, arguments, count, "audit", pylock_audit);
 }
-TAKES_TUPLE(audit)
 
 static PyObject *lock_head(PyObject *module, PyObject *lock)
 {
@@ -247,7 +245,6 @@ static PyObject *session_start(PyObject *module, PyObject *const *arguments, Py_
     raise_input(state, code, &words, arguments[0], arguments[1], false);
     return NULL;
 }
-TAKES_TUPLE(session_start)
 
 /* session_start_strict(lock, environment, json): a session, or the text of the findings for which there is none. */
 static PyObject *session_start_strict(PyObject *module, PyObject *const *arguments, Py_ssize_t count)
@@ -271,7 +268,6 @@ static PyObject *session_start_strict(PyObject *module, PyObject *const *argumen
     raise_input(state, code, &words, arguments[0], arguments[1], json);
     return NULL;
 }
-TAKES_TUPLE(session_start_strict)
 
 /* ---- edits ---- */
 
@@ -358,7 +354,6 @@ static PyObject *session_edit(PyObject *self, PyObject *const *arguments, Py_ssi
     for (int index = 0; index < edit->texts; index++) text_done(&texts[index]);
     return code == PYLOCK_OK ? PyLong_FromUnsignedLongLong(judged) : PyLong_FromLong(-code);
 }
-TAKES_TUPLE(session_edit)
 
 /* ---- answers ---- */
 

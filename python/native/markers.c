@@ -765,7 +765,6 @@ static PyObject *marker_value_in(PyObject *self, PyObject *const *arguments, Py_
     if (expression != NULL) leave(expression);
     return value;
 }
-TAKES_TUPLE(marker_value_in)
 
 static PyObject *value_over(State *state, Expression *expression, PyObject *const *arguments)
 {
@@ -793,7 +792,6 @@ static PyObject *marker_value_over(PyObject *self, PyObject *const *arguments, P
     if (expression != NULL) leave(expression);
     return value;
 }
-TAKES_TUPLE(marker_value_over)
 
 static PyMethodDef marker_methods[] = {
     {"__and__", marker_and, METH_O, PyDoc_STR("The marker that both are true.")},

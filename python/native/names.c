@@ -51,7 +51,7 @@ static PyObject *canonicalize_name(PyObject *module, PyObject *const *arguments,
     bool validate = false;
     PyObject *text = one_and_flag(&signature, arguments, count, names, &validate);
     if (text == NULL) return NULL;
-    State *state = state_of(module);
+    State *state = state_of_call(module);
     if (validate) {
         int told = told_name(text);
         if (told == 0) raise_refusal(state, PYLOCK_EDIT_NAME, text, "name");
@@ -59,7 +59,6 @@ static PyObject *canonicalize_name(PyObject *module, PyObject *const *arguments,
     }
     return normal_name(state, text);
 }
-TAKES_NAMES(canonicalize_name)
 
 /* Whether a text is a name and its own normal form: 1 or 0, or -1 with an exception. */
 static int told_normal(State *state, PyObject *text)
@@ -87,10 +86,9 @@ static PyObject *is_normalized_name(PyObject *module, PyObject *const *arguments
 {
     static const Signature signature = {"is_normalized_name", "name", NULL};
     PyObject *text = one_and_flag(&signature, arguments, count, names, NULL);
-    int told = text == NULL ? -1 : told_normal(state_of(module), text);
+    int told = text == NULL ? -1 : told_normal(state_of_call(module), text);
     return told < 0 ? NULL : PyBool_FromLong(told);
 }
-TAKES_NAMES(is_normalized_name)
 
 /* ---- records ---- */
 
@@ -303,7 +301,6 @@ static PyObject *requirement_text(PyObject *module, PyObject *const *arguments, 
     for (int part = 0; part < COUNT_OF_PARTS; part++) let_go(parts[part]);
     return text;
 }
-TAKES_TUPLE(requirement_text)
 
 /* ---- the parts of a file's name, as Python has them ---- */
 
@@ -373,7 +370,6 @@ static PyObject *parse_wheel_filename(PyObject *module, PyObject *const *argumen
     if (parts != NULL && validate_order && !has_order(state, text)) Py_CLEAR(parts);
     return parts;
 }
-TAKES_NAMES(parse_wheel_filename)
 
 static PyObject *sdist_of_record(State *state, Record *record)
 {
@@ -390,7 +386,6 @@ static PyObject *parse_sdist_filename(PyObject *module, PyObject *const *argumen
     PyObject *text = one_and_flag(&signature, arguments, count, names, NULL);
     return text == NULL ? NULL : record_of_text(state_of(module), pylock_sdist, text, "sdist", sdist_of_record);
 }
-TAKES_NAMES(parse_sdist_filename)
 
 static PyMethodDef name_functions[] = {
     CALL_NAMED("canonicalize_name", canonicalize_name, "canonicalize_name($module, name, *, validate=False)\n--\n\nThe normal form of a text as a name (PEP 503); with `validate` a text that is no name is refused."),

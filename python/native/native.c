@@ -117,7 +117,6 @@ static PyObject *use_refusals(PyObject *module, PyObject *const *arguments, Py_s
     for (int number = 0; number < MOST_REFUSALS; number++) Py_CLEAR(state->refusals[number]);
     Py_RETURN_NONE;
 }
-TAKES_TUPLE(use_refusals)
 
 /* Whether what an attribute of both types tells is the same: -1 with an exception. */
 static int have_equal(PyTypeObject *type, PyTypeObject *base, const char *name)
@@ -245,6 +244,7 @@ static PyMethodDef functions[] = {
     word(state->set_class);                                                                                              \
     word(state->abstract_class);                                                                                         \
     word(state->operators);                                                                                              \
+    word(state->letters);                                                                                                \
     word(state->marker_class);                                                                                           \
     word(state->refuse);                                                                                                 \
     word(state->refuse_input);                                                                                           \

@@ -1,7 +1,7 @@
 /* The module pylock._native: the calls of libpylock.a for Python. It judges nothing: texts go in, results come out.
  *
- * It keeps to the limited API: of 3.10, or of 3.8 where Py_LIMITED_API says so, which lacks fast calls and the UTF-8 view
- * of a text. All that it keeps lies in the state of the module, so each interpreter has its own.
+ * It keeps to the limited API: of 3.10, or of 3.8 where Py_LIMITED_API says so, which lacks the UTF-8 view of a text. All
+ * that it keeps lies in the state of the module, so each interpreter has its own.
  */
 #ifndef PYLOCK_NATIVE_H
 #define PYLOCK_NATIVE_H
@@ -46,35 +46,16 @@
 #define NATIVE_FIXED 0
 #endif
 
-/* A function of positional arguments is written once, for an array of them. CALL gives its row in a table of methods;
- * in the older API a wrapper, which TAKES_TUPLE defines, makes the array of a tuple. */
-typedef PyObject *(*ArrayCall)(PyObject *self, PyObject *const *arguments, Py_ssize_t count);
-#if NATIVE_IS_MODERN
-#define TAKES_TUPLE(name)
-#define CALL(word, name, text) {word, (PyCFunction)(void (*)(void))name, METH_FASTCALL, PyDoc_STR(text)}
-#else
-#define TAKES_TUPLE(name)                                                                                                \
-    static PyObject *name##_of_tuple(PyObject *self, PyObject *tuple) { return call_of_tuple(name, self, tuple); }
-#define CALL(word, name, text) {word, name##_of_tuple, METH_VARARGS, PyDoc_STR(text)}
-PyObject *call_of_tuple(ArrayCall call, PyObject *self, PyObject *tuple);
+/* Functions that take an array of arguments are in the limited API from 3.10 on. The releases before it that the older one is
+ * for, 3.8 and 3.9, have ended, and have the same calls under the same number. */
+#ifndef METH_FASTCALL
+#define METH_FASTCALL 0x0080
 #endif
 
-/* The same of a function whose arguments may be given by their names. */
-typedef PyObject *(*NamedCall)(PyObject *self, PyObject *const *arguments, Py_ssize_t count, PyObject *names);
-#if NATIVE_IS_MODERN
-#define TAKES_NAMES(name)
+/* The rows in a table of methods of a function of positional arguments, and of one whose arguments may be given by their names. */
+#define CALL(word, name, text) {word, (PyCFunction)(void (*)(void))name, METH_FASTCALL, PyDoc_STR(text)}
 #define CALL_NAMED_AS(word, name, more, text)                                                                          \
     {word, (PyCFunction)(void (*)(void))name, METH_FASTCALL | METH_KEYWORDS | (more), PyDoc_STR(text)}
-#else
-#define TAKES_NAMES(name)                                                                                                \
-    static PyObject *name##_of_tuple(PyObject *self, PyObject *tuple, PyObject *named)                                   \
-    {                                                                                                                    \
-        return call_of_names(name, self, tuple, named);                                                                  \
-    }
-#define CALL_NAMED_AS(word, name, more, text)                                                                          \
-    {word, (PyCFunction)(void (*)(void))name##_of_tuple, METH_VARARGS | METH_KEYWORDS | (more), PyDoc_STR(text)}
-PyObject *call_of_names(NamedCall call, PyObject *self, PyObject *tuple, PyObject *named);
-#endif
 #define CALL_NAMED(word, name, text) CALL_NAMED_AS(word, name, 0, text)
 
 /* The type of a specification, as the module holds it: of the module where the API has such types. */
@@ -151,8 +132,8 @@ typedef struct {
     PyTypeObject *version_class, *tag_class, *specifier_class, *set_class, *marker_class;
     /* the abstract class of specifiers and sets, or NULL */
     PyObject *abstract_class;
-    /* the operators of specifiers: a tuple */
-    PyObject *operators;
+    /* the operators of specifiers and the letters of pre-releases: tuples */
+    PyObject *operators, *letters;
     /* Python functions that tell the exception of a code, or NULL; and what the first has told, by its number */
     PyObject *refuse, *refuse_input, *refusals[MOST_REFUSALS];
     /* by the hashes of their texts */
@@ -187,6 +168,13 @@ static inline State *single_state(void)
 /* The state, by one of the module's types or a class that is made from it, which `own_state_of` asks. NULL with an exception where
  * there is none. */
 State *own_state_of(PyTypeObject *type);
+
+/* The state of the module, in a call of one of its functions. */
+static inline State *state_of_call(PyObject *module)
+{
+    State *only = single_state();
+    return only == NULL ? state_of(module) : only;
+}
 
 static inline State *state_of_type(PyTypeObject *type)
 {
@@ -291,13 +279,32 @@ typedef struct {
 
 typedef int32_t (*TextCall)(const uint8_t *text, size_t length, uint8_t *out, size_t room, size_t *needed);
 
+/* Calls again, where the result is longer than what is near. */
+int32_t long_result_of_text(TextCall call, const Text *text, Result *result);
+
 /* What a call writes of a text. */
-int32_t result_of_text(TextCall call, const Text *text, Result *result);
+static inline int32_t result_of_text(TextCall call, const Text *text, Result *result)
+{
+    result->bytes = result->near;
+    int32_t code = call(text->bytes, text->length, result->near, RESULT_ROOM, &result->length);
+    return code == PYLOCK_ROOM ? long_result_of_text(call, text, result) : code;
+}
+
 /* What a kept text has. It is empty then. */
 int32_t result_of_kept(pylock_text *kept, Result *result);
-void result_done(Result *result);
+
+static inline void result_done(Result *result)
+{
+    if (result->bytes != result->near) PyMem_Free(result->bytes);
+    result->bytes = result->near;
+}
+
 /* Whether the result is the text of the view. */
-bool is_as_written(const Result *result, const Text *view);
+static inline bool is_as_written(const Result *result, const Text *view)
+{
+    return result->length == view->length && memcmp(result->bytes, view->bytes, view->length) == 0;
+}
+
 /* The result as a str: the text of the view itself where it is the same. */
 PyObject *str_of_result(const Result *result, PyObject *text, const Text *view);
 
@@ -338,8 +345,14 @@ typedef struct {
     const char *name, *one, *flag;
 } Signature;
 
+/* What `one_and_flag` does where there is more than the one, or less. */
+PyObject *one_of_more(const Signature *signature, PyObject *const *arguments, Py_ssize_t count, PyObject *names, bool *flag);
+
 /* The argument: a borrowed reference. `count` arguments stand before the named ones. */
-PyObject *one_and_flag(const Signature *signature, PyObject *const *arguments, Py_ssize_t count, PyObject *names, bool *flag);
+static inline PyObject *one_and_flag(const Signature *signature, PyObject *const *arguments, Py_ssize_t count, PyObject *names, bool *flag)
+{
+    return count == 1 && names == NULL ? arguments[0] : one_of_more(signature, arguments, count, names, flag);
+}
 
 /* ---- the parts of the module ---- */
 

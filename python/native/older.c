@@ -1,4 +1,4 @@
-/* What the limited API of 3.8 has another way: arguments come as a tuple, and types don't know their module. */
+/* What the limited API of 3.8 has another way: types don't know their module. */
 #include "native.h"
 
 #if NATIVE_IS_MODERN
@@ -28,8 +28,6 @@ State *own_state_of(PyTypeObject *type)
 }
 
 #else
-
-enum { MOST_ARGUMENTS = 8 };
 
 /* The module stands in each of its types under a name that no one else gives. */
 static const char MODULE_NAME[] = "_pylock_module";
@@ -73,57 +71,6 @@ State *own_state_of(PyTypeObject *type)
     /* the type holds it further */
     Py_DECREF(module);
     return state;
-}
-
-static PyObject *too_many(void)
-{
-    PyErr_SetString(PyExc_TypeError, "there are too many arguments");
-    return NULL;
-}
-
-static bool array_of_tuple(PyObject *tuple, PyObject **arguments, Py_ssize_t *count)
-{
-    *count = PyTuple_Size(tuple);
-    if (*count > MOST_ARGUMENTS) return too_many() != NULL;
-    for (Py_ssize_t index = 0; index < *count; index++) arguments[index] = PyTuple_GetItem(tuple, index);
-    return true;
-}
-
-PyObject *call_of_tuple(ArrayCall call, PyObject *self, PyObject *tuple)
-{
-    PyObject *arguments[MOST_ARGUMENTS];
-    Py_ssize_t count;
-    return array_of_tuple(tuple, arguments, &count) ? call(self, arguments, count) : NULL;
-}
-
-static PyObject *names_of(PyObject *named)
-{
-    PyObject *list = PyDict_Keys(named);
-    PyObject *names = list == NULL ? NULL : PyList_AsTuple(list);
-    Py_XDECREF(list);
-    if (names == NULL || PyTuple_Size(names) <= MOST_ARGUMENTS) return names;
-    Py_DECREF(names);
-    return too_many();
-}
-
-PyObject *call_of_names(NamedCall call, PyObject *self, PyObject *tuple, PyObject *named)
-{
-    PyObject *arguments[2 * MOST_ARGUMENTS];
-    Py_ssize_t count;
-    if (!array_of_tuple(tuple, arguments, &count)) return NULL;
-    if (named == NULL || PyDict_Size(named) == 0) return call(self, arguments, count, NULL);
-    /* the dict may be the caller's own */
-    PyObject *own = own_dict(named);
-    PyObject *names = own == NULL ? NULL : names_of(own);
-    PyObject *result = NULL;
-    if (names != NULL) {
-        for (Py_ssize_t index = 0; index < PyTuple_Size(names); index++)
-            arguments[count + index] = PyDict_GetItem(own, PyTuple_GetItem(names, index));
-        result = call(self, arguments, count, names);
-    }
-    Py_XDECREF(names);
-    Py_XDECREF(own);
-    return result;
 }
 
 #endif

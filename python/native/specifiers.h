@@ -185,10 +185,6 @@ bool place_arguments(const char *function, const char *const *words, PyObject *c
 
 PyObject *judge_contains(PyObject *self, PyObject *const *arguments, Py_ssize_t count, PyObject *names);
 PyObject *judge_filter(PyObject *self, PyObject *const *arguments, Py_ssize_t count, PyObject *names);
-#if !NATIVE_IS_MODERN
-PyObject *judge_contains_of_tuple(PyObject *self, PyObject *tuple, PyObject *named);
-PyObject *judge_filter_of_tuple(PyObject *self, PyObject *tuple, PyObject *named);
-#endif
 
 #define CONTAINS                                                                                                         \
     CALL_NAMED("contains", judge_contains,                                                                               \

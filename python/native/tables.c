@@ -328,7 +328,6 @@ static PyObject *toml(PyObject *module, PyObject *const *arguments, Py_ssize_t c
     PyMem_Free(writer.bytes);
     return written;
 }
-TAKES_TUPLE(toml)
 
 /* ---- objects of tables ---- */
 
@@ -428,7 +427,6 @@ static PyObject *made(PyObject *module, PyObject *const *arguments, Py_ssize_t c
     if (!check_count("made", count, 3) || !are_attributes(arguments[1])) return NULL;
     return object_of(arguments[0], arguments[1], arguments[2]);
 }
-TAKES_TUPLE(made)
 
 /* made_all(kind, attributes, tables): a list of such objects. */
 static PyObject *made_all(PyObject *module, PyObject *const *arguments, Py_ssize_t count)
@@ -446,7 +444,6 @@ static PyObject *made_all(PyObject *module, PyObject *const *arguments, Py_ssize
     if (PyErr_Occurred()) Py_CLEAR(list);
     return list;
 }
-TAKES_TUPLE(made_all)
 
 static PyMethodDef table_functions[] = {
     CALL("toml", toml, "The table as a document of TOML. A function says what a value of an unknown type is."),

@@ -90,7 +90,7 @@ static inline PyObject *made_tag(State *state, PyTypeObject *type, PyObject *tex
 /* Three texts of a tuple with dashes between: NULL with an exception. */
 static PyObject *joined(PyObject *pieces)
 {
-    PyObject *dash = PyUnicode_FromString("-"), *text = dash == NULL ? NULL : PyUnicode_Join(dash, pieces);
+    PyObject *dash = PyUnicode_DecodeLatin1("-", 1, NULL), *text = dash == NULL ? NULL : PyUnicode_Join(dash, pieces);
     Py_XDECREF(dash);
     return text;
 }
@@ -131,7 +131,7 @@ static inline PyObject *small_text(PyObject *tuple, PyObject **pieces, bool *is_
     written--;
     *is_given = is_small(near, written);
     if (!*is_given && !make_small(near, written)) return NULL;
-    return PyUnicode_DecodeLatin1((const char *)near, (Py_ssize_t)written, NULL);
+    return PyUnicode_DecodeASCII((const char *)near, (Py_ssize_t)written, NULL);
 }
 #else
 /* The bytes of a text are an object of their own here, so they are asked for once. */
@@ -159,12 +159,12 @@ static PyObject *small_text(PyObject *tuple, PyObject **pieces, bool *is_given)
 #endif
 
 /* The tag of the arguments of a call. */
-static PyObject *tag_of_call(State *state, PyTypeObject *type, PyObject *arguments, PyObject *named)
+static PyObject *tag_of_call(State *state, PyTypeObject *type, PyObject *arguments, Py_ssize_t count, PyObject *named)
 {
     static char *words[] = {"interpreter", "abi", "platform", NULL};
     PyObject *taken[MOST_TAKEN], *pieces[PIECES];
-    bool is_given, are_three = named == NULL && PyTuple_Size(arguments) == PIECES;
-    PyObject *text = are_three ? small_text(arguments, pieces, &is_given) : NULL;
+    bool is_given;
+    PyObject *text = named == NULL && count == PIECES ? small_text(arguments, pieces, &is_given) : NULL;
     /* the arguments of the call, which holds them, become the pieces; others are cut from the text */
     if (text != NULL) return made_tag(state, type, text, is_given ? pieces : NULL);
     if (PyErr_Occurred() || !take_arguments(arguments, named, "OOO:Tag", words, taken)) return NULL;
@@ -183,7 +183,7 @@ static int tag_init(PyObject *self, PyObject *arguments, PyObject *named)
 {
     Tag *tag = (Tag *)self;
     if (!tag->is_blank) return 0;
-    Tag *made = (Tag *)tag_of_call(tag->state, tag->state->tag, arguments, named);
+    Tag *made = (Tag *)tag_of_call(tag->state, tag->state->tag, arguments, PyTuple_Size(arguments), named);
     if (made == NULL) return -1;
     PyObject *text = tag->text;
     tag->text = made->text;
@@ -205,9 +205,10 @@ static PyObject *tag_new(PyTypeObject *type, PyObject *arguments, PyObject *name
 {
     State *state = state_of_type(type);
     if (state == NULL) return NULL;
-    bool is_to_be_read = named == NULL && PyTuple_Size(arguments) == 0;
+    Py_ssize_t count = PyTuple_Size(arguments);
+    bool is_to_be_read = named == NULL && count == 0;
     bool has_own_init = type != state->tag && PyType_GetSlot(type, Py_tp_init) != (void *)tag_init;
-    if (!is_to_be_read && !has_own_init) return tag_of_call(state, type, arguments, named);
+    if (!is_to_be_read && !has_own_init) return tag_of_call(state, type, arguments, count, named);
     PyObject *tag = made_tag(state, type, PyUnicode_FromString("--"), NULL);
     if (tag != NULL) ((Tag *)tag)->is_blank = true;
     return tag;
@@ -515,7 +516,6 @@ static PyObject *parse_tag(PyObject *module, PyObject *const *arguments, Py_ssiz
     if (tags != NULL && !is_checked && !has_order(state, text)) Py_CLEAR(tags);
     return tags;
 }
-TAKES_NAMES(parse_tag)
 
 /* ---- names of platforms ---- */
 
@@ -553,7 +553,6 @@ static PyObject *numbered(PyObject *module, PyObject *const *arguments, Py_ssize
     if (is_good) text_done(&behind);
     return texts;
 }
-TAKES_TUPLE(numbered)
 
 static PyMethodDef tag_functions[] = {
     CALL("numbered", numbered, "The texts with the numbers from one down to another one between two texts."),

@@ -75,11 +75,8 @@ static bool make_room(Result *result)
     return true;
 }
 
-int32_t result_of_text(TextCall call, const Text *text, Result *result)
+int32_t long_result_of_text(TextCall call, const Text *text, Result *result)
 {
-    result->bytes = result->near;
-    int32_t code = call(text->bytes, text->length, result->near, RESULT_ROOM, &result->length);
-    if (code != PYLOCK_ROOM) return code;
     if (!make_room(result)) return PYLOCK_MEMORY;
     return call(text->bytes, text->length, result->bytes, result->length, &result->length);
 }
@@ -94,12 +91,6 @@ int32_t result_of_kept(pylock_text *kept, Result *result)
     return code;
 }
 
-void result_done(Result *result)
-{
-    if (result->bytes != result->near) PyMem_Free(result->bytes);
-    result->bytes = result->near;
-}
-
 PyObject *str_of(const uint8_t *bytes, size_t length)
 {
     return PyUnicode_DecodeUTF8((const char *)bytes, (Py_ssize_t)length, NULL);
@@ -108,11 +99,6 @@ PyObject *str_of(const uint8_t *bytes, size_t length)
 PyObject *str_with_halves(const uint8_t *bytes, size_t length)
 {
     return PyUnicode_DecodeUTF8((const char *)bytes, (Py_ssize_t)length, "surrogatepass");
-}
-
-bool is_as_written(const Result *result, const Text *view)
-{
-    return result->length == view->length && memcmp(result->bytes, view->bytes, view->length) == 0;
 }
 
 PyObject *str_of_result(const Result *result, PyObject *text, const Text *view)
@@ -371,7 +357,7 @@ void end_walk(Walk *walk)
 
 /* ---- one argument ---- */
 
-PyObject *one_and_flag(const Signature *signature, PyObject *const *arguments, Py_ssize_t count, PyObject *names, bool *flag)
+PyObject *one_of_more(const Signature *signature, PyObject *const *arguments, Py_ssize_t count, PyObject *names, bool *flag)
 {
     PyObject *one = count == 1 ? arguments[0] : NULL;
     Py_ssize_t named = names == NULL ? 0 : PyTuple_Size(names);

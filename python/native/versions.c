@@ -106,6 +106,17 @@ static inline bool has_key(Version *version)
 
 /* ---- the parts ---- */
 
+typedef struct {
+    const char *letters;
+    size_t length;
+} Word;
+
+#define WORD(letters) {letters, sizeof letters - 1}
+
+/* The letters of pre-releases. */
+enum { PRES = 3 };
+static const Word letters_of_pre[PRES] = {WORD("a"), WORD("b"), WORD("rc")};
+
 /* of a release of so many numbers there is room here */
 enum { RELEASE_ROOM = 16, WORDS_OF_NUMBER = 2 };
 
@@ -122,10 +133,28 @@ static PyObject *number_or_none(bool has_number, uint64_t low, uint64_t high)
     return has_number ? number_of(low, high) : hold(Py_None);
 }
 
-static PyObject *prerelease_of(const pylock_version_parts *parts)
+/* The texts of these letters, which all versions share. */
+static PyObject *made_letters(void)
+{
+    PyObject *letters = PyTuple_New(PRES);
+    for (int place = 0; letters != NULL && place < PRES; place++) {
+        PyObject *letter = PyUnicode_InternFromString(letters_of_pre[place].letters);
+        if (letter == NULL || PyTuple_SetItem(letters, place, letter) < 0) Py_CLEAR(letters);
+    }
+    return letters;
+}
+
+static PyObject *letter_of(State *state, uint8_t pre)
+{
+    int place = pre == 'a' ? 0 : pre == 'b' ? 1 : 2;
+    PyObject *letters = state->letters;
+    return letters == NULL ? PyUnicode_InternFromString(letters_of_pre[place].letters) : hold(PyTuple_GetItem(letters, place));
+}
+
+static PyObject *prerelease_of(State *state, const pylock_version_parts *parts)
 {
     if (parts->pre == 0) return hold(Py_None);
-    PyObject *letter = PyUnicode_FromString(parts->pre == 'a' ? "a" : parts->pre == 'b' ? "b" : "rc");
+    PyObject *letter = letter_of(state, parts->pre);
     PyObject *number = letter == NULL ? NULL : number_of(parts->pre_low, parts->pre_high);
     PyObject *prerelease = number == NULL ? NULL : PyTuple_Pack(2, letter, number);
     Py_XDECREF(letter);
@@ -185,11 +214,12 @@ static PyObject *local_of(const Text *text, bool is_normal, size_t public_end)
 }
 
 /* Python's own of the library's parts of a text, which is the normal form or isn't: false with an exception. */
-static bool made_parts(const pylock_version_parts *read, const uint64_t *words, size_t count, const Text *text, bool is_normal, Parts *parts)
+static bool made_parts(State *state, const pylock_version_parts *read, const uint64_t *words, size_t count, const Text *text,
+                       bool is_normal, Parts *parts)
 {
     parts->base = read->base;
     if ((parts->epoch = number_of(read->epoch_low, read->epoch_high)) != NULL && (parts->release = release_of(words, count)) != NULL &&
-        (parts->pre = prerelease_of(read)) != NULL &&
+        (parts->pre = prerelease_of(state, read)) != NULL &&
         (parts->post = number_or_none(read->has_post, read->post_low, read->post_high)) != NULL &&
         (parts->dev = number_or_none(read->has_dev, read->dev_low, read->dev_high)) != NULL &&
         (parts->local = local_of(text, is_normal, read->public_end)) != NULL)
@@ -276,7 +306,8 @@ static bool find_whole(Version *version, PyObject *text, const Text *view, int32
     Whole whole;
     Parts parts = {.epoch = NULL};
     *code = read_whole(view, &whole);
-    bool is_good = *code == PYLOCK_OK && made_parts(&whole.parts, whole.words, whole.count, view, whole.kind.is_normal, &parts);
+    bool is_good = *code == PYLOCK_OK &&
+        made_parts(version->state, &whole.parts, whole.words, whole.count, view, whole.kind.is_normal, &parts);
     /* finalizers may have run meanwhile; from here on nothing does but the library */
     is_good = is_good && version->text == NULL;
     if (is_good && !keep_key(version, whole.key, whole.key_length)) {
@@ -330,22 +361,29 @@ static bool set_normal_text(Version *version, PyObject *text, const Text *view)
     size_t count = 0;
     Parts parts = {.epoch = NULL};
     int32_t code = pylock_version_split(view->bytes, view->length, &read, words, RELEASE_ROOM * WORDS_OF_NUMBER, &count);
-    if (code != PYLOCK_OK || !made_parts(&read, words, count, view, true, &parts)) return false;
+    if (code != PYLOCK_OK || !made_parts(version->state, &read, words, count, view, true, &parts)) return false;
     version->text = hold(text);
     version->is_normal = true;
     set_parts(version, &parts, read.pre != 0 || read.has_dev);
     return true;
 }
 
+/* The version of a normal form, whose bytes are those of the view. */
+static PyObject *version_of_view(State *state, PyObject *text, const Text *view)
+{
+    Version *version = empty_version(state, state->version_class);
+    if (version != NULL && !set_normal_text(version, text, view) && (PyErr_Occurred() || !set_text(version, text, view, text)))
+        Py_CLEAR(version);
+    return (PyObject *)version;
+}
+
 PyObject *version_of_normal(State *state, PyObject *text)
 {
     Text view;
     if (!text_of(text, &view)) return NULL;
-    Version *version = empty_version(state, state->version_class);
-    if (version != NULL && !set_normal_text(version, text, &view) && (PyErr_Occurred() || !set_text(version, text, &view, text)))
-        Py_CLEAR(version);
+    PyObject *version = version_of_view(state, text, &view);
     text_done(&view);
-    return (PyObject *)version;
+    return version;
 }
 
 /* The text of a call, which is held: NULL with an exception. */
@@ -589,20 +627,9 @@ static PyObject *get_given(PyObject *self, void *closure)
 
 /* ---- versions of parts ---- */
 
-typedef struct {
-    const char *letters;
-    size_t length;
-} Word;
-
-#define WORD(letters) {letters, sizeof letters - 1}
-
 /* The places of the parts, in the order in which they are told, and their names. */
 enum { EPOCH, RELEASE, PRE, POST, DEV, LOCAL, PARTS };
 static const Word names_of_parts[PARTS] = {WORD("epoch"), WORD("release"), WORD("pre"), WORD("post"), WORD("dev"), WORD("local")};
-
-/* The letters of pre-releases. */
-enum { PRES = 3 };
-static const Word letters_of_pre[PRES] = {WORD("a"), WORD("b"), WORD("rc")};
 
 /* Which of the words a text is: as many as there are where it is none, or with an exception. */
 static int place_of_word(PyObject *text, const Word *words, int count)
@@ -623,7 +650,7 @@ typedef struct {
     size_t length;
 } Made;
 
-static bool add_letters(Made *made, const char *letters, size_t length)
+static inline bool add_letters(Made *made, const char *letters, size_t length)
 {
     if (length > LONGEST_MADE - made->length) return false;
     memcpy(made->text + made->length, letters, length);
@@ -706,7 +733,7 @@ static PyObject *version_of_made(State *state, const Made *made, bool has_local)
     Text view = {(const uint8_t *)made->text, made->length, NULL};
     PyObject *text = PyUnicode_DecodeLatin1(made->text, (Py_ssize_t)made->length, NULL);
     if (text == NULL) return NULL;
-    PyObject *version = has_local ? version_if_normal(state, text, &view) : version_of_normal(state, text);
+    PyObject *version = has_local ? version_if_normal(state, text, &view) : version_of_view(state, text, &view);
     Py_DECREF(text);
     return version;
 }
@@ -771,7 +798,6 @@ static PyObject *from_parts(PyObject *self, PyObject *const *arguments, Py_ssize
     if (version != NULL || PyErr_Occurred()) return version;
     return asked_of_layer("from_parts", self, arguments, count, names);
 }
-TAKES_NAMES(from_parts)
 
 /* Whether as many parts are there as the version has, so that they may be its own. */
 static bool has_such_parts(const Version *version, PyObject *const *parts)
@@ -814,7 +840,6 @@ static PyObject *version_replace(PyObject *self, PyObject *const *arguments, Py_
     }
     return PyErr_Occurred() ? NULL : asked_of_layer("replaced", self, arguments, count, names);
 }
-TAKES_NAMES(version_replace)
 
 /* A version can't be changed: a copy is the version itself. */
 static PyObject *version_copy(PyObject *self, PyObject *memo)
@@ -948,7 +973,6 @@ static PyObject *canonicalize_version(PyObject *module, PyObject *const *argumen
     PyObject *item = one_and_flag(&signature, arguments, count, names, &strip);
     return item == NULL ? NULL : canonical_version(state_of(module), item, strip);
 }
-TAKES_NAMES(canonicalize_version)
 
 /* The words of PEP 440 that aren't normal, and the normal ones. */
 static const char *const spellings[][2] = {
@@ -1041,5 +1065,6 @@ bool add_versions(PyObject *module, State *state)
 {
     if (!add_type(module, "Version", &state->version, &version_spec)) return false;
     state->version_class = (PyTypeObject *)hold((PyObject *)state->version);
+    if ((state->letters = made_letters()) == NULL) return false;
     return PyModule_AddFunctions(module, version_functions) == 0;
 }

@@ -57,6 +57,12 @@ class Told(tuple):  # type: ignore[type-arg]
     __slots__ = ()
 
 
+def untold(told: Told, text: str) -> BaseException:
+    """The exception of what it is made of, on a text, as `_native` makes it."""
+    exception: BaseException = told[0].__new__(told[0], told, text)
+    return exception
+
+
 def quoted(text: object) -> str:
     """The `repr` of a text in a message, of a long one that of its beginning."""
     if isinstance(text, str) and str.__len__(text) > 200:

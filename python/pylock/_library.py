@@ -27,6 +27,7 @@ from ._errors import (
     UndefinedEnvironmentName,
     UnsortedTagsError,
     quoted,
+    untold,
 )
 from ._typing import Any, Dict, List, Optional, Tuple, Type, Union
 
@@ -135,10 +136,7 @@ def _told(code: int, text: str, kind: str) -> Union[BaseException, Told]:
 def _refusal(code: int, text: str, kind: str) -> BaseException:
     """The exception for a code of a call on a text."""
     told = _told(code, text, kind)
-    if not isinstance(told, Told):
-        return told
-    exception: BaseException = told[0].__new__(told[0], told, text)
-    return exception
+    return untold(told, text) if isinstance(told, Told) else told
 
 
 def _words_of(document: str) -> List[str]:

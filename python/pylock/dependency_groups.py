@@ -63,6 +63,9 @@ class DependencyGroupInclude:
     def __repr__(self) -> str:
         return f"DependencyGroupInclude({self.include_group!r})"
 
+    def __copy__(self) -> DependencyGroupInclude:
+        return type(self)(self.include_group)
+
     def __reduce__(self) -> Tuple[type, Tuple[str]]:
         return type(self), (self.include_group,)
 
@@ -70,19 +73,16 @@ class DependencyGroupInclude:
 _Item = Union[Requirement, DependencyGroupInclude]
 
 
-def _by_name(groups: _Groups) -> Dict[str, Sequence[Union[str, Mapping[str, str]]]]:
-    """The groups by their normal names, of which no two may be the same."""
+def _several_names(groups: _Groups) -> Exception:
+    """What is wrong with groups of which several have one normal name."""
     given: Dict[str, List[str]] = {}
     for name in groups:
         given.setdefault(canonicalize_name(name), []).append(name)
-    if len(given) == len(groups):
-        return {normal: groups[names[0]] for normal, names in given.items()}
-    errors = [
-        DuplicateGroupNames("dependency group %s has several names: %s" % (normal, ", ".join(names)))
-        for normal, names in given.items()
-        if len(names) > 1
-    ]
-    raise ExceptionGroup("several dependency groups have one name", errors)
+    errors = []
+    for normal, names in given.items():
+        if len(names) > 1:
+            errors.append(DuplicateGroupNames(f"dependency group {normal} has several names: {', '.join(names)}"))
+    return ExceptionGroup("several dependency groups have one name", errors)
 
 
 class DependencyGroupResolver:
@@ -98,7 +98,13 @@ class DependencyGroupResolver:
     """
 
     def __init__(self, dependency_groups: _Groups) -> None:
-        self.dependency_groups = _by_name(dependency_groups)
+        by_name: Dict[str, Sequence[Union[str, Mapping[str, str]]]] = {}
+        for name in dependency_groups:
+            normal = canonicalize_name(name)
+            if normal in by_name:
+                raise _several_names(dependency_groups)
+            by_name[normal] = dependency_groups[name]
+        self.dependency_groups = by_name
         # of groups in which nothing is wrong, what was read of them
         self._read: Dict[str, Tuple[_Item, ...]] = {}
         self._resolved: Dict[str, Tuple[Requirement, ...]] = {}
@@ -123,6 +129,8 @@ class DependencyGroupResolver:
 class _Question:
     """One question to a resolver, and what is found wrong in the groups that it reads."""
 
+    __slots__ = ("closed", "errors", "open", "requested", "resolver")
+
     def __init__(self, resolver: DependencyGroupResolver, requested: str) -> None:
         self.resolver = resolver
         self.requested = requested
@@ -135,7 +143,7 @@ class _Question:
     def settle(self) -> None:
         """Raises what was found wrong."""
         if self.errors:
-            raise ExceptionGroup("dependency group %r is wrong" % self.requested, self.errors)
+            raise ExceptionGroup(f"dependency group {self.requested!r} is wrong", self.errors)
 
     def items(self, name: str) -> Tuple[_Item, ...]:
         """The items of the group with this normal name; what is wrong in it is noted."""
@@ -144,7 +152,7 @@ class _Question:
             return known
         groups = self.resolver.dependency_groups
         if name not in groups:
-            self.errors.append(LookupError("there is no dependency group %r" % name))
+            self.errors.append(LookupError(f"there is no dependency group {name!r}"))
             return ()
         before = len(self.errors)
         items = self._items_of(name, groups[name])
@@ -154,16 +162,16 @@ class _Question:
 
     def _items_of(self, name: str, given: object) -> Tuple[_Item, ...]:
         if type(given) is not list and (isinstance(given, str) or not isinstance(given, Sequence)):
-            self.errors.append(TypeError("dependency group %r is a %s and no list" % (name, type(given).__name__)))
+            self.errors.append(TypeError(f"dependency group {name!r} is a {type(given).__name__} and no list"))
             return ()
         items: List[_Item] = []
         for item in given:
             if isinstance(item, str):
                 items.append(Requirement(item))
             elif type(item) is not dict and not isinstance(item, Mapping):
-                self.errors.append(TypeError("of dependency group %r an item is neither text nor table: %r" % (name, item)))
+                self.errors.append(TypeError(f"of dependency group {name!r} an item is neither text nor table: {item!r}"))
             elif tuple(item) != ("include-group",):
-                message = "of dependency group %r a table is no include: %r" % (name, item)
+                message = f"of dependency group {name!r} a table is no include: {item!r}"
                 self.errors.append(InvalidDependencyGroupObject(message))
             else:
                 items.append(DependencyGroupInclude(item["include-group"]))
@@ -199,4 +207,7 @@ def resolve_dependency_groups(dependency_groups: _Groups, /, *groups: str) -> Tu
     ('y', 'x', 'y')
     """
     resolver = DependencyGroupResolver(dependency_groups)
-    return tuple(str(requirement) for group in groups for requirement in resolver.resolve(group))
+    texts: List[str] = []
+    for group in groups:
+        texts.extend(map(str, resolver.resolve(group)))
+    return tuple(texts)

@@ -29,13 +29,13 @@ else:
         exceptions: Tuple[Exception, ...]
 
         def __init__(self, message: str, exceptions: Sequence[Exception]) -> None:
-            super().__init__(message, exceptions)
+            self.args = (message, exceptions)
             self.message = message
             self.exceptions = tuple(exceptions)
 
         def __str__(self) -> str:
             count = len(self.exceptions)
-            return "%s (%d sub-exception%s)" % (self.message, count, "" if count == 1 else "s")
+            return f"{self.message} ({count} sub-exception{'' if count == 1 else 's'})"
 
         def __repr__(self) -> str:
-            return "%s(%r, %r)" % (type(self).__name__, self.message, list(self.exceptions))
+            return f"{type(self).__name__}({self.message!r}, {list(self.exceptions)!r})"

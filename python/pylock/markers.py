@@ -22,7 +22,7 @@ from typing import TYPE_CHECKING, AbstractSet, Any, Dict, FrozenSet, Literal, Ma
 
 from . import _native, _private
 from ._environment import Environment as KeptEnvironment
-from ._errors import InvalidMarker, MarkerFault, UndefinedComparison, UndefinedEnvironmentName
+from ._errors import InvalidMarker, MarkerFault, Told, UndefinedComparison, UndefinedEnvironmentName, untold
 
 if TYPE_CHECKING:
     from typing import overload
@@ -351,8 +351,8 @@ class Marker(_native.Marker):
         """Refuses a set that the marker reads and that isn't given."""
         for name in self._sets:
             if name not in mapping:
-                message = "Marker without a value: %r (it reads %s, which isn't set)" % (self.text, name)
-                raise UndefinedEnvironmentName(message, word="marker-unset")
+                behind = f" (it reads {name}, which isn't set)"
+                raise untold(Told((UndefinedEnvironmentName, "marker-unset", "Marker without a value: ", behind)), self.text)
 
     def evaluate_exactly(self, environment: Union[KeptEnvironment, Mapping[str, Any]]) -> bool:
         """The value of the marker in exactly this environment, as the installation steps of a lock want it: nothing

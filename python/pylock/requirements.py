@@ -78,7 +78,7 @@ class Requirement:
         return "".join(self._iter_parts(self.name))
 
     def __repr__(self) -> str:
-        return "<%s(%r)>" % (type(self).__name__, str(self))
+        return f"<{type(self).__name__}({self.__str__()!r})>"
 
     def __hash__(self) -> int:
         return hash((canonicalize_name(self.name), frozenset(self.extras), self.specifier, self.url, self.marker))
