@@ -5,7 +5,7 @@
 //! the lines. `README.md` says what is proved of them. From `crates/grammar_cases/src/expected.rt`:
 //!
 //! ```rust
-//! let lines = pointed_lines(alloc, text, &fault)?;
+//! let lines = pointed_lines(alloc, text.as_str(), &fault)?;
 //! let sentence = fault.expected;
 //! Ok(format!(in alloc; "{sentence}\n{lines}")?)
 //! ```
