@@ -139,7 +139,7 @@ def __dir__() -> "list[str]":
     return sorted({*globals(), *__all__})
 
 
-__version__ = "1.8.2"
+__version__ = "1.9.0"
 
 # what `packaging` tells of itself, as far as this module has it (docs/PRIVATE.md)
 __title__ = "pylock"

@@ -58,7 +58,7 @@ impl From<clap::Error> for CommandError {
 ///
 /// No source can hold the sum of itself. So 64 characters stand in its place, and where a build is
 /// kept `tools/make/built stamp` writes the sum over them. No contract speaks of this text.
-const VERSION: &str = "1.8.2
+const VERSION: &str = "1.9.0
 sources (not told: rt built it; ./pylock and tools/release tell the sum), \
 proved in logic dac8208d650f15bf";
 
