@@ -1,7 +1,8 @@
 //! Cases of locks, of entries, of environments, of the messages on them, of sessions, of runs, of
-//! commands, of command lines, of JSON documents, and of sources and sinks, some of which fail:
-//! what each reader, session and command gives for the texts in `data/`. Or, with the word `steps`,
-//! a session that prints nothing, whose allocations and time are measured from outside.
+//! commands, of the program in memory, of command lines, of JSON documents, and of sources and
+//! sinks, some of which fail: what each reader, session and command gives for the texts in `data/`.
+//! Or, with the word `steps`, a session that prints nothing, whose allocations and time are
+//! measured from outside.
 #![tactic(auto)]
 
 mod entries;
@@ -10,6 +11,7 @@ mod files;
 mod json;
 mod keys;
 mod locks;
+mod memory;
 mod messages;
 mod plans;
 mod runs;
@@ -42,6 +44,8 @@ impl Answers for Cases {
             "lock" => locks::judge(alloc, case),
             "lock_keys" => locks::answer_case(alloc, case),
             "lock_message" => messages::of_lock(alloc, case),
+            "parts" => memory::cut_case(alloc, case),
+            "program" => memory::answer_case(alloc, case),
             "run" => runs::answer_case(alloc, case),
             "session" => sessions::answer_case(alloc, case),
             "sink" => streams::write_case(alloc, case),
