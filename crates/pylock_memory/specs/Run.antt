@@ -1,12 +1,12 @@
 -- What a run of the program in memory leaves.
-use Rattle.std.specs.Prelude.{◌≡◌, ◌⊎◌, ℕ, List, [], Some, Result, Ok, Err}
+use Rattle.std.specs.Prelude.{◌≡◌, ◌⊎◌, ℕ, List, [], Some, None, Result, Ok, Err}
 use Rattle.std.specs.Prelude.{Bool, true, false}
 use Rattle.std.specs.List.{list_all}
 use Rattle.std.specs.Str.{is_utf8}
-use Rattle.clap.specs.Words.{Text, kind_of, subcommand_of}
+use Rattle.clap.specs.Words.{Text, fault_of, kind_of, subcommand_of}
 use Rattle.clap.specs.declared.error.kind.ErrorKind.{ErrorKind}
 use Rattle.clap.specs.declared.error.kind.ErrorKind.TheVariants.{DisplayHelp, DisplayVersion}
-use Rattle.pylock_command.specs.CommandLine.{IsRefusal, IsTask, pylock_app}
+use Rattle.pylock_command.specs.CommandLine.{IsRefusal, IsTask, misuse_of, pylock_app}
 use Rattle.pylock_command.specs.declared.command_line.CommandError.{CommandError}
 use Rattle.pylock_command.specs.declared.command_line.CommandError.TheVariants as command_error
 use Rattle.pylock_command.specs.declared.task.Task.{Task}
@@ -52,10 +52,12 @@ IsRefusedEnd (command_error.Refused error) (Ok status) = IsExit (kind_of error) 
 IsRefusedEnd (command_error.Refused error) (Err failure) = failure ≡ Memory
 IsRefusedEnd command_error.Memory end = end ≡ Err Memory
 
--- the words are a task, and it was done
+-- the words are a task, of which nothing is refused, and it was done
 pub record DoesTask (words : List Text) (files : List FileValue) (input : List ℕ)
     (end : Result ℕ Failure) (output : List ℕ) : Type 0 where
   pub task : Task
+  pub taken : fault_of pylock_app words ≡ []
+  pub used : misuse_of (subcommand_of pylock_app words) ≡ None
   pub asked : IsTask (subcommand_of pylock_app words) task
   pub done : IsDone files task input end output
 
@@ -69,11 +71,11 @@ abbrev pub IsRun : List Text → List FileValue → List ℕ → Result ℕ Fail
 IsRun words files input end output =
     DoesTask words files input end output ⊎ IsRefused words end
 
--- words that are no text are refused
+-- words that are no text are refused, and nothing is printed
 abbrev pub IsRunIfText : (are_texts : Bool) → List (List ℕ) → List FileValue → List ℕ
     → Result ℕ Failure → List ℕ → Type 0
 IsRunIfText true words files input end output = IsRun words files input end output
-IsRunIfText false words files input end output = end ≡ Err NotText
+IsRunIfText false words files input end output = (end ≡ Err NotText) × (output ≡ [])
 
 -- the same of words and files that are given as bytes
 abbrev pub IsRunOfBytes : List (List ℕ) → List (List ℕ) → List ℕ → Result ℕ Failure → List ℕ

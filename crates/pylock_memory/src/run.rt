@@ -1,6 +1,6 @@
 //! The program on files and a standard input in memory.
 
-ghost use Rattle.std.specs.Prelude.{◌≡◌, ◌⊎◌, Err, IfErr, IfOk, IsTrue, OnOk, false, map};
+ghost use Rattle.std.specs.Prelude.{◌≡◌, ◌⊎◌, [], Err, IfErr, IfOk, IsTrue, OnOk, false, map};
 ghost use Rattle.std.specs.List.{list_all};
 ghost use Rattle.std.specs.Str.{is_utf8};
 ghost use Rattle.clap.specs.Words.{kind_of};
@@ -32,7 +32,8 @@ pub struct Ran {
 impl Ran {
     /// A run that ended so before it printed anything.
     fn ended(alloc: Global, failure: Failure) -> Ran
-        ensures { result.end ≡ Err failure }
+        ensures end { result.end ≡ Err failure }
+        ensures output { result.output.items ≡ [] }
     {
         Ran {
             end: Err(failure),
