@@ -4,8 +4,8 @@ The wheel carries the module, with `_native` compiled by the machine's `cc`, or 
 Python: its tag is cp310-abi3-PLATFORM, or cp38-abi3-PLATFORM where Python 3.8 or 3.9 builds it. The library is linked in:
 the archive that PYLOCK_ARCHIVE names, else out/libpylock.a of the repository, which tools/make/library builds, else
 dist/libpylock.a. Where PYLOCK_NATIVE names a compiled `_native`, the wheel has that one; PYLOCK_API names its API, as
-cp310. Where PYLOCK_PROGRAM names the built program, the wheel has it as the command pylock. PYLOCK_PLATFORM names the
-platforms of the tag, with dots between them. A wheel is the same bytes for the same files and tools.
+cp310. The command pylock is `python -m pylock`. PYLOCK_PLATFORM names the platforms of the tag, with dots between them. A
+wheel is the same bytes for the same files and tools.
 
     python3 backend/pylock_build.py place FOLDER
 
@@ -227,15 +227,13 @@ def build_wheel(wheel_directory, config_settings=None, metadata_directory=None):
     stem = "%s-%s" % (keys["name"], keys["version"])
     platforms = platform()
     name = "%s-%s-abi3-%s.whl" % (stem, api(), platforms)
-    program = os.environ.get("PYLOCK_PROGRAM")
     compiled = native()
     wheel = Wheel(os.path.join(wheel_directory, name), stem + ".dist-info")
     for module in modules():
         wheel.add("pylock/" + module, read("pylock", module))
     wheel.add("pylock/" + NATIVE, compiled, 0o755)
-    if program:
-        wheel.add(stem + ".data/scripts/pylock", content(program), 0o755)
     wheel.add(stem + ".dist-info/METADATA", metadata().encode())
+    wheel.add(stem + ".dist-info/entry_points.txt", b"[console_scripts]\npylock = pylock.__main__:command\n")
     wheel.add(stem + ".dist-info/WHEEL", tags(platforms).encode())
     wheel.close()
     return name

@@ -1,5 +1,5 @@
-/* Locks at once, and sessions. These calls may be long, so other threads run meanwhile. A session is used on its own
- * thread alone, so nothing else comes to it while a call of that thread is under way. */
+/* Locks at once, sessions, runs, and the whole program. These calls may be long, so other threads run meanwhile. A session or a
+ * run is used on its own thread alone, so nothing else comes to it while a call of that thread is under way. */
 #include "native.h"
 
 /* ---- a lock at once ---- */
@@ -72,15 +72,144 @@ static PyObject *environment_message(PyObject *module, PyObject *json)
     return message_of(module, json, pylock_environment_message);
 }
 
-/* ---- sessions, and the thread that has them ---- */
+/* ---- the whole program ---- */
 
-/* A session of the library. Where another thread lets go of it, it waits in the list of its owner. */
+/* The bytes of a tuple, one behind another, and how long each is. */
+typedef struct {
+    size_t *lengths;
+    size_t count;
+    uint8_t *bytes;
+    size_t length;
+} Joined;
+
+static void joined_done(Joined *joined)
+{
+    PyMem_Free(joined->lengths);
+    PyMem_Free(joined->bytes);
+}
+
+/* How many bytes the parts have in all: -1 with an exception. A part isn't held: the tuple holds it, and can't be changed. */
+static Py_ssize_t length_of_parts(PyObject *parts, Py_ssize_t count)
+{
+    Text part;
+    Py_ssize_t length = 0;
+    for (Py_ssize_t index = 0; index < count; index++) {
+        if (!bytes_of(PyTuple_GetItem(parts, index), &part)) return -1;
+        if (part.length > (size_t)(PY_SSIZE_T_MAX - length)) {
+            PyErr_NoMemory();
+            return -1;
+        }
+        length += (Py_ssize_t)part.length;
+    }
+    return length;
+}
+
+static bool copy_parts(PyObject *parts, Joined *joined)
+{
+    Text part;
+    uint8_t *place = joined->bytes;
+    for (size_t index = 0; index < joined->count; index++) {
+        if (!bytes_of(PyTuple_GetItem(parts, (Py_ssize_t)index), &part)) return false;
+        memcpy(place, part.bytes, part.length);
+        joined->lengths[index] = part.length;
+        place += part.length;
+    }
+    return true;
+}
+
+/* Joins a tuple of bytes: false with an exception, and then nothing is to be given back. No part of it is NULL. */
+static bool join(PyObject *parts, Joined *joined)
+{
+    if (!PyTuple_Check(parts)) {
+        PyErr_Format(PyExc_TypeError, "expected a tuple of bytes, not %R", (PyObject *)Py_TYPE(parts));
+        return false;
+    }
+    Py_ssize_t count = PyTuple_Size(parts), length = length_of_parts(parts, count);
+    if (length < 0) return false;
+    /* as many pointers lie in the tuple, so this doesn't overflow */
+    *joined = (Joined){PyMem_Malloc((size_t)count * sizeof(size_t)), (size_t)count, PyMem_Malloc((size_t)length), (size_t)length};
+    if (joined->lengths == NULL || joined->bytes == NULL)
+        PyErr_NoMemory();
+    else if (copy_parts(parts, joined))
+        return true;
+    joined_done(joined);
+    return false;
+}
+
+/* A kept text as bytes. It is empty then. */
+static PyObject *bytes_of_kept(pylock_text *kept)
+{
+    size_t length = 0;
+    PyObject *bytes = NULL;
+    if (pylock_text_length(kept, &length) != PYLOCK_OK || length > PY_SSIZE_T_MAX)
+        PyErr_NoMemory();
+    else
+        bytes = PyBytes_FromStringAndSize(NULL, (Py_ssize_t)length);
+    if (bytes != NULL) pylock_text_copy(kept, (uint8_t *)PyBytes_AsString(bytes), length, &length);
+    pylock_text_free(kept);
+    return bytes;
+}
+
+/* run_program(words, files, input): the status, and what stands on standard output and on standard error. */
+static PyObject *run_program(PyObject *module, PyObject *const *arguments, Py_ssize_t count)
+{
+    Joined words, files;
+    Text input;
+    pylock_text output = {0}, diagnostics = {0};
+    int32_t status = 0, code;
+    if (!check_count("run_program", count, 3) || !bytes_of(arguments[2], &input) || !join(arguments[0], &words)) return NULL;
+    if (!join(arguments[1], &files)) {
+        joined_done(&words);
+        return NULL;
+    }
+    Py_BEGIN_ALLOW_THREADS
+    code = pylock_main(words.lengths, words.count, words.bytes, words.length, files.lengths, files.count, files.bytes, files.length,
+                       input.bytes, input.length, &output, &diagnostics, &status);
+    Py_END_ALLOW_THREADS
+    joined_done(&words);
+    joined_done(&files);
+    if (code != PYLOCK_OK) {
+        raise_refusal(state_of(module), code, Py_None, "edit");
+        return NULL;
+    }
+    PyObject *printed = bytes_of_kept(&output), *said = bytes_of_kept(&diagnostics);
+    if (printed != NULL && said != NULL) return Py_BuildValue("iNN", (int)status, printed, said);
+    Py_XDECREF(printed);
+    Py_XDECREF(said);
+    return NULL;
+}
+
+/* select_asked(words): the fields of what `select` is asked, or None. */
+static PyObject *select_asked(PyObject *module, PyObject *arguments)
+{
+    Joined words;
+    Result record;
+    pylock_text asked = {0};
+    PyObject *fields = NULL;
+    if (!join(arguments, &words)) return NULL;
+    record.bytes = record.near;
+    int32_t code = pylock_select_asked(words.lengths, words.count, words.bytes, words.length, &asked);
+    joined_done(&words);
+    if (code == PYLOCK_OK) code = result_of_kept(&asked, &record);
+    if (code != PYLOCK_OK)
+        raise_refusal(state_of(module), code, Py_None, "edit");
+    else
+        fields = record.length == 0 ? hold(Py_None) : fields_of(record.bytes, record.length);
+    result_done(&record);
+    return fields;
+}
+
+/* ---- sessions and runs, and the thread that has them ---- */
+
+/* A session of the library, or a run: the other slot stays empty. Where another thread lets go of it, it waits in the list of its
+ * owner. */
 typedef struct Place {
     pylock_session slot;
+    pylock_run run;
     struct Place *next;
 } Place;
 
-/* A thread that has sessions. It is in the dict of the thread's state, and each session holds it. */
+/* A thread that has sessions and runs. It is in the dict of the thread's state, and each of them holds it. */
 typedef struct {
     PyObject_HEAD
     State *state;
@@ -88,6 +217,7 @@ typedef struct {
     Place *graves;
 } Owner;
 
+/* An object of a session, or of a run. */
 typedef struct {
     PyObject_HEAD
     State *state;
@@ -99,6 +229,7 @@ static void free_place(Place *place)
 {
     if (place == NULL) return;
     pylock_session_free(&place->slot);
+    pylock_run_free(&place->run);
     PyMem_Free(place);
 }
 
@@ -128,12 +259,12 @@ static PyObject *owner_graves(PyObject *self, void *closure)
 }
 
 static PyGetSetDef owner_getters[] = {
-    {"graves", owner_graves, NULL, PyDoc_STR("How many sessions wait for the thread."), NULL},
+    {"graves", owner_graves, NULL, PyDoc_STR("How many sessions and runs wait for the thread."), NULL},
     {NULL, NULL, NULL, NULL, NULL},
 };
 
 static PyType_Slot owner_slots[] = {
-    {Py_tp_doc, (void *)PyDoc_STR("A thread that has sessions.")},
+    {Py_tp_doc, (void *)PyDoc_STR("A thread that has sessions and runs.")},
     {Py_tp_new, no_new},
     {Py_tp_dealloc, owner_dealloc},
     {Py_tp_traverse, visit_type},
@@ -188,12 +319,12 @@ static void session_dealloc(PyObject *self)
     free_object(self);
 }
 
-/* An empty session of this thread. */
-static Session *new_session(State *state)
+/* An empty session or run of this thread. */
+static Session *new_session(State *state, PyTypeObject *type)
 {
     Owner *owner = this_owner(state);
     if (owner == NULL) return NULL;
-    Session *session = (Session *)new_object(state, state->session);
+    Session *session = (Session *)new_object(state, type);
     if (session == NULL) {
         Py_DECREF(owner);
         return NULL;
@@ -220,7 +351,7 @@ static bool has_owner(const Owner *owner)
 static bool is_on_its_thread(Session *session)
 {
     if (has_owner(session->owner)) return true;
-    if (!PyErr_Occurred()) PyErr_SetString(PyExc_RuntimeError, "pylock: a session is used on its own thread alone");
+    if (!PyErr_Occurred()) PyErr_SetString(PyExc_RuntimeError, "pylock: a session or a run is used on its own thread alone");
     return false;
 }
 
@@ -234,7 +365,7 @@ static PyObject *session_start(PyObject *module, PyObject *const *arguments, Py_
     int32_t code;
     if (!check_count("session_start", count, 2)) return NULL;
     if (!bytes_of(arguments[0], &lock) || !bytes_of(arguments[1], &environment)) return NULL;
-    Session *session = new_session(state);
+    Session *session = new_session(state, state->session);
     if (session == NULL) return NULL;
     pylock_session *slot = &session->place->slot;
     Py_BEGIN_ALLOW_THREADS
@@ -256,7 +387,7 @@ static PyObject *session_start_strict(PyObject *module, PyObject *const *argumen
     if (!check_count("session_start_strict", count, 3)) return NULL;
     if (!bytes_of(arguments[0], &lock) || !bytes_of(arguments[1], &environment)) return NULL;
     int json = PyObject_IsTrue(arguments[2]);
-    Session *session = json < 0 ? NULL : new_session(state);
+    Session *session = json < 0 ? NULL : new_session(state, state->session);
     if (session == NULL) return NULL;
     pylock_session *slot = &session->place->slot;
     Py_BEGIN_ALLOW_THREADS
@@ -466,7 +597,7 @@ static PyMethodDef session_methods[] = {
 };
 
 static PyGetSetDef session_getters[] = {
-    {"owner", session_owner, NULL, PyDoc_STR("The thread that has the session."), NULL},
+    {"owner", session_owner, NULL, PyDoc_STR("The thread that has it."), NULL},
     {NULL, NULL, NULL, NULL, NULL},
 };
 
@@ -487,6 +618,96 @@ static PyType_Spec session_spec = {
     .slots = session_slots,
 };
 
+/* ---- runs ---- */
+
+/* run_start(lock, environment, json): a run, and what it prints at first. */
+static PyObject *run_start(PyObject *module, PyObject *const *arguments, Py_ssize_t count)
+{
+    State *state = state_of(module);
+    Text lock, environment;
+    pylock_text output = {0};
+    int32_t code;
+    if (!check_count("run_start", count, 3)) return NULL;
+    if (!bytes_of(arguments[0], &lock) || !bytes_of(arguments[1], &environment)) return NULL;
+    int json = PyObject_IsTrue(arguments[2]);
+    Session *run = json < 0 ? NULL : new_session(state, state->run);
+    if (run == NULL) return NULL;
+    pylock_run *slot = &run->place->run;
+    Py_BEGIN_ALLOW_THREADS
+    code = pylock_run_start(slot, lock.bytes, lock.length, environment.bytes, environment.length, json, &output);
+    Py_END_ALLOW_THREADS
+    if (code == PYLOCK_OK) {
+        PyObject *printed = bytes_of_kept(&output);
+        if (printed != NULL) return Py_BuildValue("NN", (PyObject *)run, printed);
+    } else
+        raise_input(state, code, &output, arguments[0], arguments[1], false);
+    Py_DECREF(run);
+    return NULL;
+}
+
+/* feed(json, piece): what the piece has the run print. After a refusal the run is closed. */
+static PyObject *run_feed(PyObject *self, PyObject *const *arguments, Py_ssize_t count)
+{
+    Session *run = (Session *)self;
+    Text piece;
+    pylock_text output = {0};
+    int32_t code;
+    if (!check_count("feed", count, 2) || !bytes_of(arguments[1], &piece)) return NULL;
+    int json = PyObject_IsTrue(arguments[0]);
+    if (json < 0 || !is_on_its_thread(run)) return NULL;
+    pylock_run *slot = &run->place->run;
+    Py_BEGIN_ALLOW_THREADS
+    code = pylock_run_feed(slot, json, piece.bytes, piece.length, &output);
+    Py_END_ALLOW_THREADS
+    if (code == PYLOCK_OK) return bytes_of_kept(&output);
+    pylock_run_free(slot);
+    raise_refusal(run->state, code, Py_None, "edit");
+    return NULL;
+}
+
+/* end(json): what the end of the input has the run print, and the status. The run is closed then. */
+static PyObject *run_end(PyObject *self, PyObject *flag)
+{
+    Session *run = (Session *)self;
+    pylock_text output = {0};
+    int32_t status = 0, code;
+    int json = PyObject_IsTrue(flag);
+    if (json < 0 || !is_on_its_thread(run)) return NULL;
+    pylock_run *slot = &run->place->run;
+    Py_BEGIN_ALLOW_THREADS
+    code = pylock_run_end(slot, json, &output, &status);
+    Py_END_ALLOW_THREADS
+    if (code == PYLOCK_OK) {
+        PyObject *printed = bytes_of_kept(&output);
+        return printed == NULL ? NULL : Py_BuildValue("Ni", printed, (int)status);
+    }
+    raise_refusal(run->state, code, Py_None, "edit");
+    return NULL;
+}
+
+static PyMethodDef run_methods[] = {
+    CALL("feed", run_feed, "What the next piece of the input has the run print."),
+    {"end", run_end, METH_O, PyDoc_STR("What the end of the input has it print, and the status. The run is closed then.")},
+    {NULL, NULL, 0, NULL},
+};
+
+static PyType_Slot run_slots[] = {
+    {Py_tp_doc, (void *)PyDoc_STR("A run of `select`.")},
+    {Py_tp_new, no_new},
+    {Py_tp_dealloc, session_dealloc},
+    {Py_tp_traverse, session_traverse},
+    {Py_tp_methods, run_methods},
+    {Py_tp_getset, session_getters},
+    {0, NULL},
+};
+
+static PyType_Spec run_spec = {
+    .name = "pylock._native.Run",
+    .basicsize = sizeof(Session),
+    .flags = Py_TPFLAGS_DEFAULT | Py_TPFLAGS_HAVE_GC | NATIVE_FIXED,
+    .slots = run_slots,
+};
+
 static PyMethodDef lock_functions[] = {
     CALL("files", files, "What `pylock files` prints, and its status."),
     CALL("audit", audit, "What `pylock audit` prints, and its status."),
@@ -495,12 +716,15 @@ static PyMethodDef lock_functions[] = {
     {"environment_message", environment_message, METH_O, PyDoc_STR("Why an environment is refused.")},
     CALL("session_start", session_start, "The session on a lock in an environment."),
     CALL("session_start_strict", session_start_strict, "The same on a lock that is taken strictly, or the findings."),
+    CALL("run_start", run_start, "The run of `select` on a lock in an environment, and what it prints at first."),
+    CALL("run_program", run_program, "The status of the whole program on files and an input in memory, and what it prints."),
+    {"select_asked", select_asked, METH_O, PyDoc_STR("What the words ask `select` for, or None.")},
     {NULL, NULL, 0, NULL},
 };
 
 bool add_locks(PyObject *module, State *state)
 {
     return (state->owner = type_of_spec(module, &owner_spec)) != NULL &&
-        add_type(module, "Session", &state->session, &session_spec) &&
+        add_type(module, "Session", &state->session, &session_spec) && add_type(module, "Run", &state->run, &run_spec) &&
         PyModule_AddFunctions(module, lock_functions) == 0;
 }

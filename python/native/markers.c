@@ -433,15 +433,21 @@ static bool find_string(State *state, Expression *expression)
     return true;
 }
 
-/* Reads the view of the expression's text for values. The empty text, of an empty tree, is true. */
-static int32_t fill_slot(Expression *expression, const Text *view)
+/* Reads the view of an expression's text into a slot. The empty text, of an empty tree, is true. */
+static int32_t read_view(const Text *view, pylock_marker *slot)
 {
     static const Text is_true = {(const uint8_t *)"''==''", 6, NULL};
     const Text *text = view->length == 0 ? &is_true : view;
+    return pylock_marker_parse(slot, text->bytes, text->length);
+}
+
+/* The same for values. */
+static int32_t fill_slot(Expression *expression, const Text *view)
+{
     pylock_marker slot = {0};
     Result pieces = {.length = 0};
     pieces.bytes = pieces.near;
-    int32_t code = pylock_marker_parse(&slot, text->bytes, text->length);
+    int32_t code = read_view(view, &slot);
     if (code == PYLOCK_OK) code = read_pieces(&slot, &pieces);
     for (int place = 0; code == PYLOCK_OK && place < COUNT_OF_SETS; place++) expression->reads[place] = has_word(&pieces, SETS[place]);
     result_done(&pieces);
@@ -793,11 +799,72 @@ static PyObject *marker_value_over(PyObject *self, PyObject *const *arguments, P
     return value;
 }
 
+/* ---- what is asked of every environment ---- */
+
+typedef int32_t (*MarkersCall)(pylock_marker *first, pylock_marker *second, int32_t *answer, pylock_environment *witness);
+
+/* The fields of the record of a witness, or None where the answer is another one; NULL with an exception. */
+static PyObject *environment_shown(State *state, int32_t answer, pylock_environment *witness)
+{
+    pylock_text kept = {0};
+    Result record;
+    if (answer != PYLOCK_NO) return hold(Py_None);
+    record.bytes = record.near;
+    int32_t code = pylock_environment_record(witness, &kept);
+    if (code == PYLOCK_OK) code = result_of_kept(&kept, &record);
+    pylock_environment_free(witness);
+    PyObject *fields = code == PYLOCK_OK ? fields_of(record.bytes, record.length) : NULL;
+    if (code != PYLOCK_OK) raise_refusal(state, code, Py_None, "name");
+    result_done(&record);
+    return fields;
+}
+
+/* The code of a question about two expressions that have slots, or -1 with an exception. One beside itself has a second slot. */
+static int32_t ask_both(Expression *first, Expression *second, MarkersCall call, int32_t *answer, pylock_environment *witness)
+{
+    Text view;
+    pylock_marker twin = {0};
+    if (first != second) return call(&first->slot, &second->slot, answer, witness);
+    if (!text_of(first->text, &view)) return -1;
+    int32_t code = read_view(&view, &twin);
+    text_done(&view);
+    if (code == PYLOCK_OK) code = call(&first->slot, &twin, answer, witness);
+    pylock_marker_free(&twin);
+    return code;
+}
+
+static PyObject *asked_of_both(PyObject *self, PyObject *other, MarkersCall call)
+{
+    State *state = ((Marker *)self)->state;
+    pylock_environment witness = {0};
+    int32_t answer = PYLOCK_UNDECIDED, code = -1;
+    if (!is_of(other, state->marker)) return PyErr_Format(PyExc_TypeError, "expected a Marker, not %R", (PyObject *)Py_TYPE(other));
+    Expression *first = said(self), *second = first == NULL ? NULL : said(other);
+    if (second != NULL && has_slot(state, first) && has_slot(state, second)) code = ask_both(first, second, call, &answer, &witness);
+    if (code > PYLOCK_OK) raise_refusal(state, code, first->text, "marker");
+    if (first != NULL) leave(first);
+    if (second != NULL) leave(second);
+    return code == PYLOCK_OK ? told_answer(answer, environment_shown(state, answer, &witness)) : NULL;
+}
+
+static PyObject *marker_disjoint(PyObject *self, PyObject *other)
+{
+    return asked_of_both(self, other, pylock_marker_is_disjoint);
+}
+
+static PyObject *marker_implied(PyObject *self, PyObject *other)
+{
+    return asked_of_both(self, other, pylock_marker_implies);
+}
+
 static PyMethodDef marker_methods[] = {
     {"__and__", marker_and, METH_O, PyDoc_STR("The marker that both are true.")},
     {"__or__", marker_or, METH_O, PyDoc_STR("The marker that one of them is true.")},
     {"__copy__", marker_copy, METH_NOARGS, PyDoc_STR("A marker of its own that says the same.")},
     {"__deepcopy__", marker_copy, METH_O, PyDoc_STR("A marker of its own that says the same.")},
+    {"_disjoint", marker_disjoint, METH_O,
+     PyDoc_STR("Whether in no environment both are true: a number, and the fields of an environment that shows 0, or None.")},
+    {"_implied", marker_implied, METH_O, PyDoc_STR("Whether the other is true wherever this one is: the same.")},
     {"_read", marker_read, METH_O, PyDoc_STR("Makes it the marker of a text; that of the empty one is true.")},
     CALL("_value_in", marker_value_in, "The value in an environment, with the text of the operand `extra` or None."),
     CALL("_value_over", marker_value_over,

@@ -236,6 +236,7 @@ static PyMethodDef functions[] = {
     word(state->environment);                                                                                            \
     word(state->layers);                                                                                                 \
     word(state->session);                                                                                                \
+    word(state->run);                                                                                                    \
     word(state->owner);                                                                                                  \
     word(state->field_method);                                                                                           \
     word(state->version_class);                                                                                          \

@@ -127,7 +127,7 @@ typedef struct {
     /* the module, and each object of its types: an object may outlive the module where the collector takes both apart */
     Py_ssize_t users;
     /* NULL where the module was taken apart */
-    PyTypeObject *version, *tag, *set, *specifier, *filter, *marker, *environment, *layers, *session, *owner, *field_method;
+    PyTypeObject *version, *tag, *set, *specifier, *filter, *marker, *environment, *layers, *session, *run, *owner, *field_method;
     /* the classes of the Python layer, of which results are made: the types themselves until `use` says otherwise */
     PyTypeObject *version_class, *tag_class, *specifier_class, *set_class, *marker_class;
     /* the abstract class of specifiers and sets, or NULL */
@@ -329,6 +329,10 @@ typedef PyObject *(*RecordReader)(State *state, Record *record);
 
 /* What the reader makes of the record that a call writes of a text; `kind` is that of `raise_refusal`. */
 PyObject *record_of_text(State *state, RecordCall call, PyObject *text, const char *kind, RecordReader reader);
+
+/* What the Python layer is told of an answer of the library: a tuple of its number and of what shows it, which is let go of,
+ * or NULL where that is. */
+PyObject *told_answer(int32_t answer, PyObject *witness);
 
 /* ---- refusals ---- */
 

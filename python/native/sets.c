@@ -683,13 +683,56 @@ static PyObject *set_compare(PyObject *self, PyObject *other, int how)
 
 /* ---- whether there is no version in it ---- */
 
-/* What the Python layer finds is kept until something is said of pre-releases. */
+/* The code of the library, which tells whether a kept version is a pre-release. */
+static int32_t read_phase(pylock_text *version, bool *is_early)
+{
+    Result text;
+    size_t length;
+    uint8_t none[1];
+    pylock_version_kind kind = {.is_prerelease = false};
+    int32_t code = result_of_kept(version, &text);
+    /* the key has no room, and the kind is told then too */
+    if (code == PYLOCK_OK) code = pylock_version_read(text.bytes, text.length, none, 0, &length, &kind);
+    result_done(&text);
+    *is_early = kind.is_prerelease;
+    return code == PYLOCK_ROOM ? PYLOCK_OK : code;
+}
+
+/* What the library shows of whether there is no version in the set, a Told: UNKNOWN where it shows nothing, where what was said of
+ * pre-releases leaves its version out, and of texts and of a class of one's own, which the Python layer asks. -1 with an exception. */
+static int emptiness(Set *set)
+{
+    State *state = set->judge.state;
+    pylock_text witness = {0};
+    int32_t answer = PYLOCK_UNDECIDED;
+    bool is_early = false;
+    if (set->judge.has_exact || Py_TYPE(set) != state->set_class) return UNKNOWN;
+    /* from the last look at the slot on nothing runs but the library */
+    pylock_set *slot = fill_slot(&set->judge);
+    int32_t code = slot == NULL ? -1 : pylock_set_is_unsatisfiable(slot, &answer, &witness);
+    PyObject *said = said_of(&set->judge);
+    if (code == PYLOCK_OK && answer == PYLOCK_NO && said == Py_False) code = read_phase(&witness, &is_early);
+    pylock_text_free(&witness);
+    if (code > PYLOCK_OK) raise_refusal(state, code, Py_None, "specifier");
+    if (code != PYLOCK_OK) return -1;
+    if (answer == PYLOCK_YES) return YES;
+    bool shows = answer == PYLOCK_NO && !is_early && (said == NULL || said == Py_True || said == Py_False);
+    return shows ? NO : UNKNOWN;
+}
+
+/* What is found is kept until something is said of pre-releases. */
 static PyObject *set_is_unsatisfiable(PyObject *self, PyObject *nothing)
 {
     Set *set = (Set *)self;
     (void)nothing;
     if (set->judge.unsatisfiable != UNKNOWN) return PyBool_FromLong(set->judge.unsatisfiable == YES);
     if (judge_lets_all(&set->judge)) return PyBool_FromLong(false);
+    int empty = emptiness(set);
+    if (empty < 0) return NULL;
+    if (empty != UNKNOWN) {
+        set->judge.unsatisfiable = (unsigned)empty & 3;
+        return PyBool_FromLong(empty == YES);
+    }
     PyObject *items = set_items(self), *forced = hold(said_of(&set->judge));
     PyObject *found = items == NULL ? NULL : PyObject_CallMethod(self, "_has_no_version", "(O)", items);
     int told = found == NULL ? -1 : PyObject_IsTrue(found);
@@ -699,6 +742,65 @@ static PyObject *set_is_unsatisfiable(PyObject *self, PyObject *nothing)
     let_go(forced);
     let_go(items);
     return told < 0 ? NULL : PyBool_FromLong(told);
+}
+
+/* ---- what is asked of every version ---- */
+
+typedef int32_t (*SetsCall)(pylock_set *first, pylock_set *second, int32_t *answer, pylock_text *witness);
+
+/* Another set of the same text: NULL with an exception. */
+static PyObject *twin_of(PyObject *self)
+{
+    State *state = ((Set *)self)->judge.state;
+    PyObject *text = set_text(self), *twin = text == NULL ? NULL : (PyObject *)new_set(state, state->set);
+    if (twin != NULL && !read_text((Set *)twin, text)) Py_CLEAR(twin);
+    Py_XDECREF(text);
+    return twin;
+}
+
+/* Fills the slots of two sets: false with an exception. From the last look at them on nothing runs but the library. */
+static bool fill_both(Set *first, Set *second, pylock_set **slots)
+{
+    do {
+        slots[0] = fill_slot(&first->judge);
+        slots[1] = slots[0] == NULL ? NULL : fill_slot(&second->judge);
+        if (slots[1] == NULL) return false;
+    } while (!slots[0]->full);
+    return true;
+}
+
+/* The version of a witness, or None where the answer is another one; NULL with an exception. */
+static PyObject *version_shown(State *state, int32_t answer, pylock_text *witness)
+{
+    if (answer != PYLOCK_NO) return hold(Py_None);
+    PyObject *text = str_of_kept(witness), *version = text == NULL ? NULL : version_of_normal(state, text);
+    Py_XDECREF(text);
+    return version;
+}
+
+static PyObject *asked_of_both(PyObject *self, PyObject *other, SetsCall call)
+{
+    State *state = ((Set *)self)->judge.state;
+    pylock_set *slots[2];
+    pylock_text witness = {0};
+    int32_t answer = PYLOCK_UNDECIDED, code = -1;
+    if (!is_of(other, state->set)) return PyErr_Format(PyExc_TypeError, "expected a SpecifierSet, not %R", (PyObject *)Py_TYPE(other));
+    /* a set beside itself has a slot of its own */
+    PyObject *second = other == self ? twin_of(self) : hold(other);
+    if (second != NULL && fill_both((Set *)self, (Set *)second, slots)) code = call(slots[0], slots[1], &answer, &witness);
+    Py_XDECREF(second);
+    if (code > PYLOCK_OK) raise_refusal(state, code, Py_None, "specifier");
+    return code == PYLOCK_OK ? told_answer(answer, version_shown(state, answer, &witness)) : NULL;
+}
+
+static PyObject *set_subset(PyObject *self, PyObject *other)
+{
+    return asked_of_both(self, other, pylock_set_is_subset);
+}
+
+static PyObject *set_disjoint(PyObject *self, PyObject *other)
+{
+    return asked_of_both(self, other, pylock_set_is_disjoint);
 }
 
 /* ---- the type ---- */
@@ -713,6 +815,8 @@ static PyMethodDef set_methods[] = {
     FILTER,
     {"_passes", judge_passes, METH_O, PyDoc_STR("Whether the set lets a version through, a pre-release as any other; a text that is no version may be given.")},
     {"_items", set_items_call, METH_NOARGS, PyDoc_STR("The specifiers, in the order of the text.")},
+    {"_subset", set_subset, METH_O, PyDoc_STR("Whether the other set admits each version that this one does: a number, and a version that shows 0, or None.")},
+    {"_disjoint", set_disjoint, METH_O, PyDoc_STR("Whether no version is admitted by both: the same.")},
     {"_joined", set_joined, METH_O, PyDoc_STR("The set of the specifiers of both.")},
     {"_says_more", set_says_more, METH_NOARGS, PyDoc_STR("Whether a specifier was told of pre-releases, of which the text has nothing.")},
     {NULL, NULL, 0, NULL},

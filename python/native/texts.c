@@ -190,6 +190,17 @@ PyObject *record_of_text(State *state, RecordCall call, PyObject *text, const ch
     return read;
 }
 
+/* ---- answers ---- */
+
+PyObject *told_answer(int32_t answer, PyObject *witness)
+{
+    PyObject *number = witness == NULL ? NULL : PyLong_FromLong(answer);
+    PyObject *told = number == NULL ? NULL : PyTuple_Pack(2, number, witness);
+    Py_XDECREF(number);
+    Py_XDECREF(witness);
+    return told;
+}
+
 /* ---- refusals ---- */
 
 static void raise_made(PyObject *exception)

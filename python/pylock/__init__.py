@@ -27,6 +27,7 @@ TYPE_CHECKING = False
 
 if TYPE_CHECKING:
     from . import markers, requirements, specifiers, tags, utils, version
+    from ._answers import Answer, Outcome
     from ._environment import VARIABLES, Environment, environment
     from ._errors import (
         InvalidEdit,
@@ -65,14 +66,15 @@ if TYPE_CHECKING:
     from .version import VERSION_PATTERN, InvalidVersion, Version, parse, parse_all, sorted_versions, version_key
 
 __all__ = [
-    "BuildTag", "Environment", "Explanation", "Finding", "InvalidEdit", "InvalidEnvironment", "InvalidLock",
+    "Answer", "BuildTag", "Environment", "Explanation", "Finding", "InvalidEdit", "InvalidEnvironment", "InvalidLock",
     "InvalidMarker", "InvalidName", "InvalidRequirement", "InvalidSdistFilename", "InvalidSpecifier", "InvalidTag",
-    "InvalidTarget", "InvalidVersion", "InvalidWheelFilename", "Lock", "Marker", "MarkerFault", "NormalizedName", "Options",
-    "Package", "Pick", "PlanFault", "Refusal", "Requirement", "Session", "Specifier", "SpecifierSet", "StrictRefusal", "Tag",
-    "UndefinedComparison", "UndefinedEnvironmentName", "UnsortedTagsError", "VARIABLES", "VERSION_PATTERN", "Verdict",
-    "Version", "WrongThread", "canonicalize_name", "canonicalize_version", "default_environment", "environment",
-    "is_normalized_name", "markers", "parse", "parse_all", "parse_sdist_filename", "parse_tag", "parse_wheel_filename",
-    "requirements", "sorted_versions", "specifiers", "tags", "utils", "version", "version_key",
+    "InvalidTarget", "InvalidVersion", "InvalidWheelFilename", "Lock", "Marker", "MarkerFault", "NormalizedName",
+    "Options", "Outcome", "Package", "Pick", "PlanFault", "Refusal", "Requirement", "Session", "Specifier", "SpecifierSet",
+    "StrictRefusal", "Tag", "UndefinedComparison", "UndefinedEnvironmentName", "UnsortedTagsError", "VARIABLES",
+    "VERSION_PATTERN", "Verdict", "Version", "WrongThread", "canonicalize_name", "canonicalize_version",
+    "default_environment", "environment", "is_normalized_name", "markers", "parse", "parse_all", "parse_sdist_filename",
+    "parse_tag", "parse_wheel_filename", "requirements", "sorted_versions", "specifiers", "tags", "utils", "version",
+    "version_key",
 ]
 
 
@@ -98,6 +100,7 @@ _native.use_refusals(_told, _refused_input)
 # The modules in which the names are. A module is imported when a name of it is asked for: who imports another one alone, as
 # `pylock.version`, waits for no more than it needs.
 _MODULES = {
+    "_answers": ("Answer", "Outcome"),
     "_environment": ("VARIABLES", "Environment", "environment"),
     "_errors": (
         "InvalidEdit", "InvalidEnvironment", "InvalidLock", "InvalidMarker", "InvalidName", "InvalidRequirement",
@@ -139,7 +142,7 @@ def __dir__() -> "list[str]":
     return sorted({*globals(), *__all__})
 
 
-__version__ = "1.9.0"
+__version__ = "1.11.0"
 
 # what `packaging` tells of itself, as far as this module has it (docs/PRIVATE.md)
 __title__ = "pylock"

@@ -1,192 +1,225 @@
-"""`python -m pylock`: the commands `plan`, `explain`, `files` and `audit` of the program, over the library.
+"""`python -m pylock`: the program, over the library.
 
-What stands on standard output, and the status, are the program's (docs/FORMATS.md), and so are the options. What a
-person is told on standard error is shorter, and the other commands are the program's alone.
+What it reads, prints and answers is the program's (docs/FORMATS.md). Beside that it knows the Python that runs it, whose environment
+counts where ENV is left out, and which `python -m pylock environment` prints.
 """
 
 from __future__ import annotations
 
-import argparse
-import json
 import os
+import re
 import sys
-from itertools import groupby
-from typing import Any, List, Optional, Sequence, Tuple
 
 from . import _library as _native
-from ._environment import read_source
-from ._errors import InvalidEdit, InvalidEnvironment, InvalidLock
-from ._lock import lock_head
+from ._environment import environment, environment_bytes
+from ._errors import InvalidEdit, shown
+from ._typing import Any, Dict, List, Optional, Sequence, Tuple
+
+# the most bytes of a file, and how many are read at once
+_MOST = 268_435_456
+_PIECE = 65_536
+# what the program says where it lacks something: it is given that, and run again
+_NO_ENV = b"error: ENV is missing, or --python and --platform in its place\n"
+_NO_INPUT = b"pylock: -: the file is empty\n"
+_NO_FILE = b"pylock: file: %s: %s\n"
+# the path of standard input, and that of the environment of this Python, which no word of a command line can be
+_INPUT = b"-"
+_HERE = b"this Python\0"
+_FORM = b"pylock: note: --format "
+_WAITS = b"pylock: edit lines are read from standard input; Ctrl-D ends them\n"
+_HELP = b"Print the environment of a Python and a platform\n"
+_MORE_HELP = b"\nWithout options, `python -m pylock environment` prints that of the Python itself.\n"
 
 
-def _parser() -> argparse.ArgumentParser:
-    parser = argparse.ArgumentParser(prog="python -m pylock", description=(__doc__ or "").split("\n\n")[0])
-    commands = parser.add_subparsers(dest="command", metavar="COMMAND", required=True)
-    for name, what in (("plan", "what is to be installed"), ("explain", "what becomes of each entry, and why")):
-        command = commands.add_parser(name, help=what, description=what, allow_abbrev=False)
-        command.add_argument("lock", metavar="LOCK", help="a pylock.toml")
-        command.add_argument("environment", metavar="ENV", help="an environment, as tools/environment writes it")
-        command.add_argument("--all-extras", action="store_true")
-        command.add_argument("--extra", metavar="NAME", action="append", default=[])
-        command.add_argument("--no-default-groups", action="store_true")
-        command.add_argument("--all-groups", action="store_true")
-        command.add_argument("--group", metavar="NAME", action="append", default=[])
-        command.add_argument("--no-group", metavar="NAME", action="append", default=[])
-        policy = {"action": "append", "dest": "policies", "metavar": "NAME", "default": []}
-        command.add_argument("--only-binary", type=lambda name: ("only-binary", name, "wheel"), **policy)  # type: ignore
-        command.add_argument("--no-binary", type=lambda name: ("no-binary", name, "source"), **policy)  # type: ignore
-        command.add_argument("--set", metavar="VARIABLE=VALUE", action="append", default=[])
-        command.add_argument("--strict", action="store_true")
-        command.add_argument("--json", action="store_true")
-    for name, what in (
-        ("files", "every source that the lock names"),
-        ("audit", "what a careful reader of the lock would want to be told"),
-    ):
-        command = commands.add_parser(name, help=what, description=what, allow_abbrev=False)
-        command.add_argument("lock", metavar="LOCK", help="a pylock.toml")
-        command.add_argument("--json", action="store_true")
-    return parser
-
-
-class _Refused(Exception):
-    """An option is refused: its word and its text."""
-
-
-def _edits(words: Any, lock: bytes) -> List[Tuple[str, str, Tuple[str, ...]]]:
-    """Of each option the word, the text and the edit, in the order of the program's table."""
-    edits: List[Tuple[str, str, Tuple[str, ...]]] = []
-    if words.all_extras or words.no_default_groups or words.all_groups:
-        head = lock_head(lock)
-        if words.all_extras:
-            edits += [("all-extras", name, ("add_extra", name)) for name in head.extras]
-    edits += [("extra", name, ("add_extra", name)) for name in words.extra]
-    if words.no_default_groups:
-        edits += [("no-default-groups", name, ("drop_group", name)) for name in head.default_groups]
-    if words.all_groups:
-        names = head.dependency_groups + head.default_groups
-        edits += [("all-groups", name, ("add_group", name)) for name in names]
-    edits += [("group", name, ("add_group", name)) for name in words.group]
-    edits += [("no-group", name, ("drop_group", name)) for name in words.no_group]
-    for word, name, policy in words.policies:
-        edits.append((word, name, ("policy", name, policy)))
-    for text in words.set:
-        name, sign, value = text.partition("=")
-        edits.append(("set", text, ("set", name, value) if sign else ("",)))
-    return edits
-
-
-def _make(session: _native.KeptSession, edits: List[Tuple[str, str, Tuple[str, ...]]]) -> None:
-    """Makes the edits, those of names that follow each other at once."""
-    for (kind, *more), run in groupby(edits, lambda option: (option[2][0], *option[2][2:])):
-        several = list(run)
-        if not _native.session_edit_names(session, kind, [text for _, text, _ in several], *more):
-            for option in several:
-                _edit(session, *option)
-
-
-def _edit(session: _native.KeptSession, word: str, text: str, edit: Tuple[str, ...]) -> None:
-    try:
-        if not edit[0]:
-            raise _Refused(word, text, "no =")
-        if edit[0] == "policy" and text == ":all:":
-            entries = json.loads(_native.session_explain(session, True)[0])["entries"]
-            names = list(dict.fromkeys([entry["name"] for entry in entries]))
-            if not _native.session_edit_names(session, "policy", names, edit[2]):
-                for name in names:
-                    _native.session_edit(session, "policy", name, edit[2])
-        else:
-            _native.session_edit(session, *edit)
-    except InvalidEdit as error:
-        why = {
-            "name": "not a name",
-            "extra": "not an extra of the lock",
-            "group": "not a group of the lock",
-            "variable": "no such variable",
-        }.get(error.word, error.word)
-        if error.word in ("extra", "group") and not _native.is_name(text):
-            why = "not a name"
-        raise _Refused(word, text, why) from None
-
-
-def _field(text: str) -> str:
-    if text == "-":
-        return "\\-"
-    for sign, escape in (("\\", "\\\\"), ("\t", "\\t"), ("\n", "\\n"), ("\r", "\\r")):
-        text = text.replace(sign, escape)
-    return text
-
-
-def _refused(words: Sequence[str], as_json: bool) -> str:
-    if as_json:
-        return json.dumps({"pylock": 1, "refused": list(words)}, separators=(",", ":"), ensure_ascii=False) + "\n"
-    return "\t".join(words) + "\n"
+# ---- what is written ----
 
 
 class _Unwritten(Exception):
     """Standard output took not all."""
 
 
-def _print(text: str) -> None:
+def _seen(text: bytes) -> bytes:
+    """The text as a terminal is given it: no character of it steers that."""
+    letters = text.decode("utf-8", "surrogateescape")
+    return re.sub(r"[^\t\n]+", lambda found: shown(found[0]), letters).encode("utf-8", "surrogateescape")
+
+
+def _write(stream: Any, text: bytes) -> bool:
+    """Writes all of the text at once; whether that was done."""
+    if stream is None or not text:
+        return not text
+    left = memoryview(_seen(text) if stream.isatty() else text)
     try:
-        sys.stdout.buffer.write(text.encode())
-        sys.stdout.buffer.flush()
+        while left:
+            # without a buffer, as after `python -u`, it may be less than all, or None where it would wait
+            written = stream.buffer.write(left)
+            if not written:
+                raise BlockingIOError
+            left = left[written:]
+        stream.buffer.flush()
     except OSError:
         # what is left would be tried, and told of, once more where the interpreter ends
-        os.dup2(os.open(os.devnull, os.O_WRONLY), sys.stdout.fileno())
-        raise _Unwritten from None
+        os.dup2(os.open(os.devnull, os.O_WRONLY), stream.fileno())
+        return False
+    return True
 
 
-def _tell(text: str) -> None:
-    sys.stderr.buffer.write(("pylock: %s\n" % text).encode("utf-8", "backslashreplace"))
+def _print(text: bytes) -> None:
+    if not _write(sys.stdout, text):
+        raise _Unwritten
 
 
-def _report(words: Any) -> int:
-    lock = read_source(words.lock)
-    if words.command in ("files", "audit"):
-        text, status = (_native.files if words.command == "files" else _native.audit)(lock, words.json)
-        _print(text)
-        return status
-    environment = read_source(words.environment)
-    if words.strict:
-        started = _native.session_start_strict(lock, environment, words.json)
-        if isinstance(started, str):
-            _print(started)
-            _tell("--strict refuses what audit found in " + words.lock)
-            return 2
-        session = started
+def _tell(text: bytes) -> None:
+    _write(sys.stderr, text)
+
+
+# ---- what is read ----
+
+
+def _whole(file: int) -> bytes:
+    """The bytes to the end, or more of them than a file may have."""
+    pieces, length = [b""], 0
+    while length <= _MOST:
+        try:
+            pieces.append(os.read(file, _PIECE))
+        except OSError as error:
+            # why a read fails isn't told
+            raise OSError("can't be read") from error
+        if not pieces[-1]:
+            break
+        length += len(pieces[-1])
+    return b"".join(pieces)
+
+
+def _content(path: bytes) -> bytes:
+    if path == _HERE:
+        return environment_bytes(environment())
+    if path == _INPUT:
+        return _whole(0)
+    with open(path, "rb", buffering=0) as file:
+        return _whole(file.fileno())
+
+
+def _why(error: OSError) -> bytes:
+    """Why a file can't be read, in the program's words."""
+    if isinstance(error, FileNotFoundError):
+        return b"no such file"
+    if isinstance(error, IsADirectoryError):
+        return b"a directory"
+    return b"permission" if isinstance(error, PermissionError) else b"can't be read"
+
+
+# ---- the program ----
+
+
+def _told(path: bytes, why: bytes) -> bytes:
+    return _NO_FILE % (shown(path.decode("utf-8", "replace")).encode(), why)
+
+
+class _Program:
+    """The program on its words, in memory. What it says that it lacks is read, and it is run again."""
+
+    def __init__(self, words: List[bytes]) -> None:
+        self.words = words
+        self.files: Dict[bytes, bytes] = {}
+
+    def lacked(self, said: bytes) -> Optional[bytes]:
+        """The path of what it says that it lacks."""
+        if said.startswith(_NO_ENV):
+            self.words.append(_HERE)
+            return _HERE
+        if said == _NO_INPUT:
+            return _INPUT
+        for word in self.words:
+            path = word[len(b"--in=") :] if word.startswith(b"--in=") else word
+            if said == _told(path, b"no such file"):
+                return path
+        return None
+
+    def run(self) -> Tuple[int, bytes, bytes]:
+        """Its status without edit lines, and what stands on standard output and standard error."""
+        while True:
+            files = [part for file in self.files.items() if file[0] != _INPUT for part in file]
+            ended = _native.run_program(tuple(self.words), tuple(files), self.files.get(_INPUT, b""))
+            path = self.lacked(ended[2])
+            if path is None or path in self.files:
+                return ended
+            try:
+                self.files[path] = _content(path)
+            except OSError as error:
+                return 3, b"", _told(path, _why(error))
+
+
+def _select(program: _Program, asked: _native.Asked) -> int:
+    """Prints the first answer, and each further one as soon as its line was read."""
+    lock, path, python, platform, _, form = asked
+    if path is None:
+        machine = _native.environment_target(python or "", platform or "")
     else:
-        session = _native.session_start(lock, environment)
-    try:
-        _make(session, _edits(words, lock))
-    except _Refused as refusal:
-        word, text, why = refusal.args
-        _print(_refused(["refused", word, _field(text)], False) if not words.json else _refused([word, text], True))
-        _tell("--%s: `%s`: %s" % (word, text, why))
-        return 1
-    call = _native.session_answer if words.command == "plan" else _native.session_explain
-    text, is_plan = call(session, words.json)
-    _print(text)
-    return 0 if is_plan else 1
+        machine = program.files[path.encode()]
+    run, printed = _native.run_start(program.files[lock.encode()], machine, form == "json")
+    while True:
+        _print(printed)
+        try:
+            piece = os.read(0, _PIECE)
+        except OSError:
+            return _end(b"read")
+        if not piece:
+            break
+        printed = _native.run_feed(run, form == "json", piece)
+    printed, status = _native.run_end(run, form == "json")
+    _print(printed)
+    return status
 
 
-def main(arguments: Optional[Sequence[str]] = None) -> int:
-    words = _parser().parse_args(arguments)
-    try:
-        return _report(words)
-    except InvalidLock as error:
-        kind = "environment" if isinstance(error, InvalidEnvironment) else "lock"
-        _print(_refused([kind, *error.words], words.json))
-        # the message begins with the kind, where the program has the name of the file
-        _tell(getattr(words, kind) + str(error)[len(kind) :])
-        return 2
-    except OSError as error:
-        _tell("file: %s: %s" % (error.filename, (error.strerror or "can't be read").lower()))
-    except _Unwritten:
-        _tell("write")
-    except MemoryError:
-        _tell("memory")
+def _end(why: bytes) -> int:
+    _tell(b"pylock: %s\n" % why)
     return 3
 
 
+def _perform(words: List[bytes]) -> int:
+    if words[1:] == [b"environment"]:
+        from json import dumps
+
+        _print(dumps(environment(), separators=(",", ":"), sort_keys=True).encode() + b"\n")
+        return 0
+    program = _Program(words)
+    status, printed, said = program.run()
+    asked = _native.select_asked(tuple(program.words))
+    if asked is not None and os.isatty(0):
+        _tell(_WAITS)
+    if asked is not None and status < 2:
+        return _select(program, asked)
+    note, end, rest = said.partition(b"\n")
+    if note.startswith(_FORM):
+        # what a form leaves out is told before it
+        _tell(note + end)
+        said = rest
+    _print(printed + _MORE_HELP if printed.startswith(_HELP) else printed)
+    _tell(said)
+    return status
+
+
+def main(arguments: Optional[Sequence[str]] = None) -> int:
+    try:
+        return _perform([b"pylock", *map(os.fsencode, sys.argv[1:] if arguments is None else arguments)])
+    except _Unwritten:
+        return _end(b"write")
+    except InvalidEdit:
+        return _end(b"input")
+    except MemoryError:
+        return _end(b"memory")
+
+
+def command() -> int:
+    """The command `pylock`."""
+    import signal
+
+    # Ctrl-C ends it as it ends the program, also within a call of the library
+    if signal.getsignal(signal.SIGINT) is signal.default_int_handler:
+        signal.signal(signal.SIGINT, signal.SIG_DFL)
+    return main()
+
+
 if __name__ == "__main__":
-    sys.exit(main())
+    sys.exit(command())

@@ -32,11 +32,13 @@ from ._errors import (
 from ._typing import Any, Dict, List, Optional, Tuple, Type, Union
 
 KeptSession = _native.Session
+KeptRun = _native.Run
 
 # ---- refusals ----
 
 # code: the exception, its word, and what a message says in brackets
 _REFUSALS: Dict[int, Tuple[Type[Refusal], str, str]] = {
+    6: (InvalidEdit, "input", "the input has more than 1,000,000 lines or 268,435,456 bytes"),
     10: (InvalidVersion, "syntax", ""),
     11: (InvalidVersion, "number", "a number is past 128 bits"),
     20: (InvalidSpecifier, "syntax", ""),
@@ -260,3 +262,23 @@ def session_explain(kept: KeptSession, json: bool) -> Tuple[str, bool]:
 def session_judged(kept: KeptSession) -> List[int]:
     """The numbers that the last accepted edit judged."""
     return [int(number) for number in kept.judged().split()]
+
+
+# ---- the whole program ----
+
+# what `select` is asked: a lock; an environment, or the Python and the platform of a target; strict and json, where those are
+Asked = Tuple[str, Optional[str], Optional[str], Optional[str], Optional[str], Optional[str]]
+
+run_program = _native.run_program
+select_asked = _native.select_asked
+run_start = _native.run_start
+
+
+def run_feed(kept: KeptRun, json: bool, piece: bytes) -> bytes:
+    """What the next piece of the input has the run print. After a refusal the run is over."""
+    return kept.feed(json, piece)
+
+
+def run_end(kept: KeptRun, json: bool) -> Tuple[bytes, int]:
+    """What the end of the input has the run print, and the status. The run is over then."""
+    return kept.end(json)

@@ -27,6 +27,7 @@ from ._errors import InvalidMarker, MarkerFault, Told, UndefinedComparison, Unde
 if TYPE_CHECKING:
     from typing import overload
 
+    from ._answers import Answer, EnvironmentWitness
     from ._parser import MarkerList
 else:
     __getattr__ = _private.names_of("markers")
@@ -365,6 +366,33 @@ class Marker(_native.Marker):
         """
         kept = environment._kept if isinstance(environment, KeptEnvironment) else _mapped(environment, False)
         return self._value_in(kept, None)
+
+    def is_disjoint(self, other: Marker) -> Answer[EnvironmentWitness]:
+        """Whether in no environment both markers are true, of those that an interpreter of Python may have: `python_version` is
+        that of `python_full_version`, `os_name`, `sys_platform` and `platform_system` are of one platform, and variables may be
+        unset. It is as in a lock, where `extra` has no text: a marker that reads it is neither true nor false. A no has an
+        environment in which both are true, as `evaluate_exactly` takes it.
+
+        >>> answer = Marker("python_version < '3.10'").is_disjoint(Marker("python_full_version >= '3.12.1'"))
+        >>> bool(answer)
+        True
+        """
+        from ._answers import answer_of_markers
+
+        return answer_of_markers(self._disjoint(other))
+
+    def implies(self, other: Marker) -> Answer[EnvironmentWitness]:
+        """Whether the other marker is true, or has no value, in each such environment in which this one is true. A no has one
+        in which this marker is true and the other false.
+
+        >>> bool(Marker("sys_platform == 'win32'").implies(Marker("os_name == 'nt'")))
+        True
+        >>> Marker("os_name == 'nt'").implies(Marker("'docs' in extras")).witness["os_name"]
+        'nt'
+        """
+        from ._answers import answer_of_markers
+
+        return answer_of_markers(self._implied(other))
 
 
 _native.use_marker(Marker)

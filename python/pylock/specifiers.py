@@ -23,6 +23,9 @@ from . import _native, _private
 from ._errors import InvalidSpecifier, InvalidVersion
 from .version import Version
 
+if TYPE_CHECKING:
+    from ._answers import Answer
+
 __all__ = ["BaseSpecifier", "InvalidSpecifier", "Specifier", "SpecifierSet"]
 
 UnparsedVersion = Union[Version, str]
@@ -265,6 +268,30 @@ class SpecifierSet(_private.SetParts, _native.Set, _Judge):
 
     else:
         __and__ = _native.Set._joined
+
+    def is_subset(self, other: SpecifierSet) -> Answer[Version]:
+        """Whether the other set admits each version that this one does, by the order of versions alone, as `admits`: whatever is
+        said of pre-releases. A no has a version that this set alone admits.
+
+        >>> bool(SpecifierSet("==1.4.*").is_subset(SpecifierSet(">=1.2,<2")))
+        True
+        """
+        from ._answers import answer_of_sets
+
+        return answer_of_sets(self._subset(other))
+
+    def is_disjoint(self, other: SpecifierSet) -> Answer[Version]:
+        """Whether no version is admitted by both sets, by the order of versions alone, as `admits`. A no has a version that both
+        admit. Beside the empty set it is the question whether this set admits none.
+
+        >>> SpecifierSet("<2").is_disjoint(SpecifierSet(">=2")).outcome
+        <Outcome.YES: 'yes'>
+        >>> SpecifierSet("<=2").is_disjoint(SpecifierSet(">=2")).witness
+        <Version('2')>
+        """
+        from ._answers import answer_of_sets
+
+        return answer_of_sets(self._disjoint(other))
 
     def _has_no_version(self, items: Tuple[Specifier, ...]) -> bool:
         """Whether there is no version that it contains; its specifiers are given, at least one."""

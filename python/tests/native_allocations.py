@@ -50,6 +50,8 @@ class Allocations(unittest.TestCase):
                 if nth % 2:
                     self.assertEqual(seen(arguments), before, (row.name, nth))
                 # the call may be made again
+                if not row.again:
+                    arguments = row.make()
                 found = outcome(row, arguments, 0, False)
             self.assertEqual(found, expected, (row.name, nth))
             self.assertEqual(seen(arguments), after, (row.name, nth))

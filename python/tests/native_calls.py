@@ -44,10 +44,10 @@ EDITS = (
 class Row:
     """A call: a function, and what makes its arguments anew each time. `error` is what it raises, or None. Where an allocation is
     refused to the frame of a function in Python, that loses the exception, and what was iterated can't be made again: calls with
-    such aren't for `allocations`."""
+    such aren't for `allocations`. Where it isn't `again`, MemoryError closes what it was called of."""
 
-    def __init__(self, name, function, make, error=None, allocations=True):
-        self.name, self.function, self.make, self.error, self.allocations = name, function, make, error, allocations
+    def __init__(self, name, function, make, error=None, allocations=True, again=True):
+        self.name, self.function, self.make, self.error, self.allocations, self.again = name, function, make, error, allocations, again
 
 
 def fixed(*arguments):
@@ -338,7 +338,18 @@ def of_kept():
     yield Row("next(Set.filter)", next, lambda: (of_filter("<2", ["1rc1", "1", "1.1"]),), allocations=False)
     yield Row("Set.filter", _native.Set.filter, lambda: (_native.Set("<2"), ["1rc1"], None, str))
     yield Row("Set.filter of nothing", _native.Set.filter, lambda: (_native.Set("<2"), 5), TypeError)
-    yield Row("Set.is_unsatisfiable", pylock.SpecifierSet.is_unsatisfiable, lambda: (pylock.SpecifierSet(">=1,<2"),), allocations=False)
+    # by the library, of what was joined too, and by the Python layer
+    for text, said, allocations in ((">=1,<2", None, True), (">=2,<1", None, True), ("<=%s" % LONG, False, True), ("===x", None, False), ("==1rc1", False, False)):
+        yield Row("Set(%.7s).is_unsatisfiable, %s" % (text, said), pylock.SpecifierSet.is_unsatisfiable,
+                  lambda text=text, said=said: (pylock.SpecifierSet(fresh(text), said) & "!=1.7",), allocations=allocations)
+    for name in ("_subset", "_disjoint"):
+        for make in (lambda: _native.Set("<2, >=1.dev0"), of_joined, of_items, lambda: _native.Set(""), lambda: _native.Set("===x")):
+            for other in (lambda: _native.Set(">=1.dev0,<3"), of_joined, lambda: _native.Set(">=7"), lambda: _native.Set("")):
+                yield Row("Set(%s).%s(%s)" % (str(make())[:12], name, str(other())[:12]), getattr(_native.Set, name),
+                          lambda make=make, other=other: (make(), other()))
+            yield Row("Set(%s).%s of itself" % (str(make())[:12], name), getattr(_native.Set, name), lambda make=make: (make(),) * 2)
+        yield Row("Set.%s, refused" % name, getattr(_native.Set, name), lambda: (_native.Set(">=1"), ">=1"), TypeError)
+        yield Row("Set.%s of no text" % name, getattr(_native.Set, name), lambda: (_native.Set(">=1"), _native.Set.__new__(_native.Set)), ValueError)
     yield Row("Set again", _native.Set.__init__, lambda: (_native.Set(">=1"), "<2"))
     yield Row("Set of no text", str, lambda: (_native.Set.__new__(_native.Set),), ValueError)
     yield Row("Set, refused", _native.Set, fixed("?"), pylock.InvalidSpecifier)
@@ -408,6 +419,11 @@ def of_markers():
         for name in ("__and__", "__or__", "__eq__", "__ne__"):
             for other in (make, makers[0], lambda: 5):
                 yield Row("marker %d, %s" % (number, name), getattr(_native.Marker, name), lambda make=make, other=other: (make(), other()))
+        for name in ("_disjoint", "_implied"):
+            for other in (make, makers[0], lambda: _native.Marker("'y' in extras and python_version < '3.9'")):
+                yield Row("marker %d, %s" % (number, name), getattr(_native.Marker, name), lambda make=make, other=other: (make(), other()))
+            yield Row("marker %d, %s of itself" % (number, name), getattr(_native.Marker, name), lambda make=make: (make(),) * 2)
+            yield Row("marker %d, %s, refused" % (number, name), getattr(_native.Marker, name), lambda make=make: (make(), "os_name == 'nt'"), TypeError)
         yield Row("marker %d, _value_in" % number, _native.Marker._value_in, lambda make=make: (make(), environment(), "x"))
         yield Row("marker %d, _value_over" % number, _native.Marker._value_over, lambda make=make: (make(), layers(), {}, "x", True))
         for text in (fresh("os_name == '\u00e9'"), ""):
@@ -442,6 +458,65 @@ def of_locks():
     yield Row("Session.picks of a fault", _native.Session.picks, lambda: (_native.session_start(LOCK, NOTHING),))
     yield Row("answer of a closed one", _native.Session.answer, lambda: (closed(), True), ValueError)
     yield Row("picks of a closed one", _native.Session.picks, lambda: (closed(),), ValueError)
+
+
+def words(text):
+    """The words of a line, as the program takes them."""
+    return tuple([b"pylock", *text.encode().split()])
+
+
+FILES = (b"lock", LOCK, b"environment", ENVIRONMENT, b"bad", BAD_LOCK)
+
+
+def of_the_program():
+    for text in ("plan lock environment", "explain - environment --json", "select lock environment", "name A_b", "marker 'a'=='b' environment", "files --help"):
+        given = LOCK if " - " in text else b"show\n"
+        yield Row("run_program(%s)" % text, _native.run_program, fixed(words(text), FILES, given))
+    # what there is no memory for isn't told on standard error
+    for text in ("plan bad environment", "plan absent environment", "version x", "fly", "name \u00e9", ""):
+        yield Row("run_program(%a)" % text, _native.run_program, fixed(words(text), FILES, b""), allocations=False)
+    yield Row("run_program of no words", _native.run_program, fixed((), (), b""), allocations=False)
+    yield Row("run_program of an odd file", _native.run_program, fixed(words("name a"), FILES[:3], b"x" * 100_000))
+    for given in ([b"x"], None, b"x", ("x",), (b"x", 5), (bytearray(b"x"),)):
+        yield Row("run_program(%r)" % (given,), _native.run_program, fixed(given, (), b""), TypeError)
+        yield Row("run_program of files %r" % (given,), _native.run_program, fixed(words("name a"), given, b""), TypeError)
+        yield Row("select_asked(%r)" % (given,), _native.select_asked, fixed(given), TypeError)
+    yield Row("run_program of a str", _native.run_program, fixed((), (), "x"), TypeError)
+    for text in ("select a\\b environment --strict", "select lock --python 3.12 --platform linux --json", "select lock", "plan a b", ""):
+        yield Row("select_asked(%s)" % text, _native.select_asked, fixed(words(text)))
+    yield Row("select_asked of no text", _native.select_asked, fixed((b"pylock", b"select", b"\xff", b"a")))
+
+
+def run(json=False):
+    return _native.run_start(LOCK, ENVIRONMENT, json)[0]
+
+
+def ended():
+    one = run()
+    one.end(False)
+    return one
+
+
+def of_runs():
+    for json_too in (False, True):
+        yield Row("run_start(%s)" % json_too, _native.run_start, fixed(LOCK, ENVIRONMENT, json_too))
+        for piece in (b"", b"show\nfly\nsh", b"x" * 100_000, b"show\n" * 4):
+            yield Row("Run.feed(%s, %.5r)" % (json_too, piece), _native.Run.feed, lambda json_too=json_too, piece=piece: (run(json_too), json_too, piece), again=False)
+        yield Row("Run.end(%s)" % json_too, _native.Run.end, lambda json_too=json_too: (run(json_too), json_too), again=False)
+    yield Row("run_start of a fault", _native.run_start, fixed(LOCK, NOTHING, False))
+    yield Row("run_start, refused lock", _native.run_start, fixed(BAD_LOCK, b"{", True), pylock.InvalidLock)
+    yield Row("run_start, refused environment", _native.run_start, fixed(LOCK, b"{", False), pylock.InvalidEnvironment)
+    yield Row("Run.end of a line", _native.Run.end, lambda: (fed(b"fly"), False), again=False)
+    yield Row("Run.owner.graves", operator.attrgetter("owner.graves"), lambda: (run(),))
+    yield Row("Run.feed of an ended one", _native.Run.feed, lambda: (ended(), False, b"show\n"), ValueError)
+    yield Row("Run.end of an ended one", _native.Run.end, lambda: (ended(), False), ValueError)
+    yield Row("Run.feed of a str", _native.Run.feed, lambda: (run(), False, "show\n"), TypeError)
+
+
+def fed(piece):
+    one = run()
+    one.feed(False, piece)
+    return one
 
 
 class Entry:
@@ -521,7 +596,7 @@ def closed():
 
 
 def rows():
-    return [row for part in (of_versions, of_names, of_specifiers, of_layers, of_tags, of_kept, of_markers, of_locks, of_tables, of_fields) for row in part()]
+    return [row for part in (of_versions, of_names, of_specifiers, of_layers, of_tags, of_kept, of_markers, of_locks, of_the_program, of_runs, of_tables, of_fields) for row in part()]
 
 
 def shown(value):
@@ -569,6 +644,10 @@ def shown(value):
         return [(name, shown(getattr(value, name, None))) for name in ("name", "size", "version")]
     if isinstance(value, Memo):
         return [shown(copy) for copy in value.values()]
+    if isinstance(value, tuple) and any(isinstance(one, bytes) for one in value):
+        return [one if isinstance(one, (bytes, int)) else type(one).__name__ for one in value]
     if isinstance(value, (frozenset, tuple, list)):
         return type(value), len(value)
+    if isinstance(value, _native.Run):
+        return "a run"
     return value

@@ -119,16 +119,57 @@ class Arguments(unittest.TestCase):
             for odd in (None, 1, "1", bytearray(b"x"), [], Odd()):
                 with self.assertRaises(TypeError, msg=(name, odd)):
                     getattr(_native, name)(odd)
+        # what takes bytes, or a tuple of them, takes nothing else
+        for odd in (None, 1, "1", bytearray(b"x"), memoryview(b"x"), [], Odd()):
+            for call, arguments in (
+                (_native.run_program, (odd, (), b"")), (_native.run_program, ((), odd, b"")), (_native.run_program, ((), (), odd)),
+                (_native.run_program, ((b"x", odd), (), b"")), (_native.select_asked, (odd,)), (_native.run_start, (odd, ENVIRONMENT, False)),
+                (_native.run_start, (LOCK, odd, False)), (native_calls.run().feed, (False, odd)),
+            ):
+                with self.assertRaises(TypeError, msg=(call, odd)):
+                    call(*arguments)
+        for call in (lambda: _native.run_start(LOCK, ENVIRONMENT, Odd()), lambda: native_calls.run().feed(Odd(), b""), lambda: native_calls.run().end(Odd())):
+            self.assertRaises(ZeroDivisionError, call)
+
+    def test_joined(self):
+        """Many words, long ones, empty ones, and classes that are made from `bytes` and `tuple`."""
+
+        class Bytes(bytes):
+            def __len__(self):
+                return 5
+
+        class Words(tuple):
+            def __len__(self):
+                return 99
+
+            def __getitem__(self, place):
+                return 1 // 0
+
+            __iter__ = None
+
+        size = int(os.environ.get("NATIVE_SIZE", "10000000"))
+        for words, wanted in (
+            ((b"pylock", b"name", b"A_b"), b"a-b\n"), (Words([b"pylock", b"name", b"A_b"]), b"a-b\n"), ((b"pylock", b"name", Bytes(b"A_b")), b"a-b\n"),
+            ((b"pylock", b"name", b"a" * size), b"a" * size + b"\n"), ((b"pylock", b"name", b"--", b""), b"refused\tname\n"),
+        ):
+            self.assertEqual(_native.run_program(words, (), b"")[1], wanted)
+        self.assertEqual(_native.run_program((b"pylock", *[b""] * 10_000, b"x" * 100), (), b"")[0], 2)
+        files = tuple(part for number in range(10_000) for part in (b"%d" % number, b"x" * (number % 7)))
+        self.assertEqual(_native.run_program(native_calls.words("files lock"), files + (b"lock", LOCK, b"lock", b"x"), b"")[0], 0)
+        self.assertEqual(_native.run_program(native_calls.words("files -"), files, LOCK)[0], 0)
+        self.assertIsNone(_native.select_asked((b"pylock", *[b"x"] * 10_000)))
+        self.assertEqual(_native.select_asked(native_calls.words("select a\\b - --json")), None)
+        self.assertEqual(_native.select_asked((b"pylock", b"select", b"a\\b\tc\n-", b"\xc3\xa9", b"--json")), ("a\\b\tc\n-", "\xe9", None, None, None, "json"))
 
     def test_methods(self):
         one, kept = _native.Set(">=1"), native_calls.environment()
         started, marker = native_calls.session(), _native.Marker("os_name == 'nt'")
         specifier, layers = native_calls.of_set(">=1"), native_calls.layers()
         for odd in ODDS:
-            for call in (one.admits, one._passes, one.contains, one._joined, one.__init__, kept.add_extra, kept.add_group, started.edit, started.answer, started.explain,
+            for call in (one.admits, one._passes, one.contains, one._joined, one._subset, one._disjoint, one.__init__, kept.add_extra, kept.add_group, started.edit, started.answer, started.explain,
                          lambda odd: marker._value_in(odd, None), lambda odd: marker._value_in(kept, odd),
                          specifier.admits, specifier._passes, specifier.contains, lambda odd: marker._value_over(odd, None, None, False),
-                         lambda odd: marker._value_over(layers, odd, odd, odd), marker.__and__, marker.__or__, marker.__eq__, marker.__lt__,
+                         lambda odd: marker._value_over(layers, odd, odd, odd), marker.__and__, marker.__or__, marker._disjoint, marker._implied, marker.__eq__, marker.__lt__,
                          marker._read, lambda odd: setattr(marker, "_tree", odd), marker.__deepcopy__, marker.__init__,
                          lambda odd: marker._value_over(layers, {"os_name": odd, "extra": odd}, None, True),
                          lambda odd: marker._value_over(layers, {odd if type(odd) is str else "x": odd}, odd, True),
@@ -139,7 +180,7 @@ class Arguments(unittest.TestCase):
         self.assertEqual(started.edit("del", 2**32 + 1), started.edit("del", 99))
 
     def test_not_made(self):
-        for kind in (_native.Environment, _native.Session, type(native_calls.session().owner)):
+        for kind in (_native.Environment, _native.Session, _native.Run, type(native_calls.session().owner)):
             for make in (kind, lambda kind=kind: object.__new__(kind), lambda kind=kind: kind.__new__(kind)):
                 self.assertRaises(TypeError, make)
         for kind in (_native.Version, _native.Tag, _native.Set, _native.Marker, _native.Specifier, _native.Layers):
@@ -424,13 +465,13 @@ assert len(gone) == 40 and not any(one() for one in gone), [one() for one in gon
             module = new_module()
             kept = [module.Version("1.0.0-RC1"), module.Tag("a", "b", "c"), module.Set(">=1"), module.Marker("os_name == 'nt'"),
                     module.environment_of({"os_name": "nt"}), module.session_start(LOCK, ENVIRONMENT), *module.parse_wheel_filename("a-1-py3-none-any.whl"),
-                    module.Layers({"os_name": "nt"}), *module.specifiers(">=2")]
+                    *module.run_start(LOCK, ENVIRONMENT, False), module.Layers({"os_name": "nt"}), *module.specifiers(">=2")]
             gone = weakref.ref(module)
             del module
             gc.collect()
             self.assertIsNotNone(gone())
             self.assertTrue(kept[3]._value_in(kept[4], None) and kept[2].admits(kept[0]) is False and len(kept[5].answer(True)) == 2)
-            self.assertEqual(str(kept[0]), "1.0.0rc1")
+            self.assertEqual((str(kept[0]), kept[-4].feed(False, b"show\n")), ("1.0.0rc1", kept[-3]))
             self.assertTrue(kept[-1].admits("5") and kept[3]._value_over(kept[-2], None, None, False))
             # the thread has an object that holds the module, until it ends
             del kept
@@ -442,6 +483,8 @@ assert len(gone) == 40 and not any(one() for one in gone), [one() for one in gon
         self.assertNotEqual(one, other)
         self.assertRaises(TypeError, lambda: one < other)
         self.assertRaises(TypeError, _native.Set("").admits, other)
+        self.assertRaises(TypeError, _native.Set("")._subset, module.Set(""))
+        self.assertRaises(TypeError, _native.Marker("os_name == 'a'")._implied, module.Marker("os_name == 'a'"))
         self.assertRaises(TypeError, _native.Marker("os_name == 'a'")._value_in, module.environment_of({}), None)
         self.assertRaises(TypeError, _native.use_version, module.Version)
 
@@ -459,7 +502,7 @@ for order in range(40):
             module.Tag("a", "b", "c"), module.parse_wheel_filename("a-1-py3-none-any.whl")[1], module.Layers({"os_name": "nt"}), module.specifiers(">=2")[0]]
     def late(self, kept=kept, module=module, calls=(module.parse_wheel_filename, module.parse_tag, module.environment_of, module.environment_read,
              module.session_start, module.phase, module.use_tag, module.use_version, module.Version, module.Tag, module.Set, module.Marker,
-             module.Specifier, module.specifiers, module.Layers, module.use_specifier, module.use_set)):
+             module.Specifier, module.specifiers, module.Layers, module.use_specifier, module.use_set, module.run_start, module.run_program, module.select_asked)):
         for call, given in (
             (lambda: kept[0] < kept[1], ()), (hash, (kept[6],)), (str, (kept[0],)), (kept[2].admits, (kept[0],)), (kept[2].admits, ("x",)),
             (kept[3]._value_in, (kept[4], None)), (str, (kept[5],)), (lambda: kept[5] == kept[5], ()), (calls[0], ("a-1-py2.py3-none-any.whl",)),
@@ -468,7 +511,9 @@ for order in range(40):
             (calls[9], ("a", "b", "c")), (calls[10], (">=1",)), (calls[10], ("?",)), (calls[11], ("os_name == 'a'",)), (repr, (kept[0],)),
             (kept[3]._value_over, (kept[7], {"os_name": "x", "extra": "y"}, None, True)), (kept[8].admits, ("1",)), (hash, (kept[8],)),
             (calls[12], (">=1",)), (calls[12], ("?",)), (calls[13], (">=1,<2",)), (calls[14], ({"os_name": "x"},)), (calls[15], (kept[8].__class__,)),
-            (calls[16], (kept[2].__class__,)), (kept[2]._joined, (kept[2],)), (kept[2]._joined, ("<2",)), (list, (kept[2],)), (str, (kept[2],)),
+            (calls[16], (kept[2].__class__,)), (calls[17], (LOCK, ENVIRONMENT, True)), (calls[18], ((b"pylock", b"name", b"a"), (), b"")),
+            (calls[19], ((b"pylock", b"select", b"a", b"b"),)), (calls[17], (b"x", ENVIRONMENT, True)), (kept[2]._joined, (kept[2],)), (kept[2]._joined, ("<2",)),
+            (kept[2]._subset, (kept[2],)), (kept[3]._implied, (kept[3],)), (list, (kept[2],)), (str, (kept[2],)),
         ):
             try: call(*given)
             except Exception as error: heard.append(type(error).__name__)
@@ -690,11 +735,12 @@ gc.disable()
 other = native_hard.new_module()
 def everything(module):
     return [module.Version("1.0-RC1"), module.Tag("a", "b", "c"), module.Set(">=1"), module.Marker("os_name == 'a'"), module.environment_of({}),
-            module.session_start(native_calls.LOCK, native_calls.ENVIRONMENT), module.parse_wheel_filename("a-1-py3-none-any.whl")]
+            module.session_start(native_calls.LOCK, native_calls.ENVIRONMENT), module.parse_wheel_filename("a-1-py3-none-any.whl"),
+            module.run_start(native_calls.LOCK, native_calls.ENVIRONMENT, True)[0]]
 class Late:
     def __init__(self, module): self.kept = everything(module); self.module = module; self.itself = self
     def __del__(self, len=len, str=str, everything=everything):
-        len(self.kept[5].answer(True)); str(self.kept[0]); everything(self.module)
+        len(self.kept[5].answer(True)); self.kept[7].feed(True, b"show\\n"); str(self.kept[0]); everything(self.module)
 sys.late = Late(_native); sys.other = Late(other); builtins = __import__("builtins"); builtins.late = Late(other)
 class Sub(_native.Version):
     def __del__(self): self.release, str(self), self < self
@@ -708,7 +754,7 @@ for thread in threads: thread.start()
 for thread in threads: thread.join()
 stop = threading.Event()
 def forever():
-    while True: everything(_native); _native.audit(native_calls.LOCK, True)
+    while True: everything(_native); _native.audit(native_calls.LOCK, True); _native.run_program(native_calls.words("plan lock environment"), native_calls.FILES, b"")
 threading.Thread(target=forever, daemon=True).start()
 atexit.register(everything, other)
 """

@@ -178,6 +178,7 @@ def of_sets():
             ("hash", hash, ()), ("str", str, ()), ("list", list, ()), ("text", lambda one: one.text, ()), ("prereleases", lambda one: one.prereleases, ()),
             ("normal_text", lambda one: one.normal_text, ()), ("contains", _native.Set.contains, ("7rc1", False)), ("admits", _native.Set.admits, ("7",)),
             ("_joined", _native.Set._joined, ("<9, !=7.0",)), ("of itself", lambda one: str(one._joined(one)), ()), ("==", lambda one: one == "<3,>=1", ()),
+            ("_subset", _native.Set._subset, (native_calls.of_joined(),)), ("_disjoint of itself", lambda one: one._disjoint(one), ()),
             ("__init__", _native.Set.__init__, ("<9",)), ("__init__ of items", _native.Set.__init__, (["<9", ">=1"],)),
         ):
             def case(make=make, function=function, more=more):
@@ -200,6 +201,7 @@ def of_markers():
         for name, function, more in (
             ("str", str, ()), ("hash", hash, ()), ("text", lambda one: one.text, ()), ("_sets", lambda one: one._sets, ()), ("copy", _native.Marker.__copy__, ()),
             ("__and__", _native.Marker.__and__, (native_calls.joined(),)), ("__eq__", _native.Marker.__eq__, (native_calls.joined(),)),
+            ("_disjoint", _native.Marker._disjoint, (native_calls.joined(),)), ("_implied of itself", lambda one: one._implied(one), ()),
             ("_read", _native.Marker._read, ("os_name == 'x'",)), ("__init__", _native.Marker.__init__, ("os_name == 'x'",)),
             ("_value_in", _native.Marker._value_in, (native_calls.environment(), fresh("\u00c9\ud800"))),
             ("_value_over", _native.Marker._value_over, (native_calls.layers(), {"os_name": fresh("nt")}, None, True)),
@@ -230,7 +232,9 @@ def of_modules():
         ("parse_wheel_filename", ("a-1.0-5x-py2.py3-none-any.whl",)), ("parse_wheel_filename", ("a",)), ("parse_sdist_filename", ("a-1.0.zip",)), ("parse_tag", ("P2.\xc9-none-any",)),
         ("specifiers", (">=1,<2",)), ("Version", ("x",)), ("Set", ("?",)), ("Set", ([">=1", "<2"],)), ("phase", (native_calls.LONG + "rc1",)), ("lock_head", (b"x",)),
         ("session_start", (LOCK, ENVIRONMENT)), ("canonicalize_version", ("1.0.0-RC1",)), ("requirement_parts", ("A_b[c,d]>=1; os_name == '\xe9'",)),
-        ("requirement_parts", ("?",)), ("Marker", ("os_name",)),
+        ("requirement_parts", ("?",)), ("Marker", ("os_name",)), ("run_start", (LOCK, ENVIRONMENT, False)), ("run_start", (b"x", ENVIRONMENT, True)),
+        ("run_program", (native_calls.words("plan lock environment"), native_calls.FILES, b"")), ("run_program", ((b"pylock", 5), (), b"")),
+        ("select_asked", (native_calls.words("select a\\b environment"),)),
     ):
         def case(name=name, arguments=arguments, module=another):
             def other():

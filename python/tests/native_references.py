@@ -61,7 +61,7 @@ class References(unittest.TestCase):
 class Resident(unittest.TestCase):
     def test_resident(self):
         """The memory of the process, with what the library holds."""
-        rows, grown = native_calls.rows(), []
+        rows, grown = list(native_calls.rows()), []
         for _ in range(TURNS):
             before = resident()
             for row in rows:

@@ -2,8 +2,10 @@
 
 import contextlib
 import importlib
+import io
 import os
 import sys
+import tempfile
 
 HERE = os.path.dirname(os.path.abspath(__file__))
 PYTHON = os.path.dirname(HERE)
@@ -76,3 +78,29 @@ def refused(test, error, word=None, place=None):
         test.assertEqual(caught.exception.word, word)
     if place is not None:
         test.assertEqual(caught.exception.place, place)
+
+
+@contextlib.contextmanager
+def in_folder(folder, given):
+    """The block runs in the folder, with these bytes as the standard input of the process."""
+    before, kept = os.getcwd(), os.dup(0)
+    with tempfile.TemporaryFile() as file:
+        file.write(given)
+        file.seek(0)
+        os.dup2(file.fileno(), 0)
+    os.chdir(folder)
+    try:
+        yield
+    finally:
+        os.chdir(before)
+        os.dup2(kept, 0)
+        os.close(kept)
+
+
+def call_main(words, folder, given=b""):
+    """What `python -m pylock` does, called in this process: its status, standard output and standard error."""
+    main = importlib.import_module("pylock.__main__").main
+    out, error = [io.TextIOWrapper(io.BytesIO(), "utf-8", newline="\n") for _ in range(2)]
+    with in_folder(folder, given), contextlib.redirect_stdout(out), contextlib.redirect_stderr(error):
+        status = main([os.fsdecode(word) for word in words])
+    return status, out.buffer.getvalue(), error.buffer.getvalue()

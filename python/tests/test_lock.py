@@ -11,7 +11,7 @@ from test_manners import LINUX, LOCK, linux
 from test_worked import answer
 
 import pylock
-from pylock import _lock
+from pylock import _library, _lock
 
 
 class Locks(unittest.TestCase):
@@ -256,6 +256,63 @@ def planned(call, *arguments):
         return call(*arguments)
     except pylock.PlanFault as fault:
         return str(fault)
+
+
+class Runs(unittest.TestCase):
+    """Runs of `select` by the pieces of their input."""
+
+    def run_on(self, pieces, json_too=False):
+        kept, printed = _library.run_start(LOCK, linux()._json, json_too)
+        fed = [_library.run_feed(kept, json_too, piece) for piece in pieces]
+        last, status = _library.run_end(kept, json_too)
+        return [printed, *fed, last], status
+
+    def test_pieces(self):
+        for json_too in (False, True):
+            for text in (b"", b"show", b"show\n", b"fly\nextra+ z\n\nset os_name nt", b"set sys_platform darwin\n"):
+                whole = self.run_on([text], json_too)
+                for cut in range(len(text)):
+                    pieces, status = self.run_on([text[:cut], b"", text[cut:]], json_too)
+                    self.assertEqual((b"".join(pieces), status), (b"".join(whole[0]), whole[1]))
+                each, status = self.run_on([text[place : place + 1] for place in range(len(text))], json_too)
+                self.assertEqual((b"".join(each), status), (b"".join(whole[0]), whole[1]))
+
+    def test_answers(self):
+        started = pylock.Session(LOCK, linux())
+        first = answer(started)[0]
+        started.set("sys_platform", "darwin")
+        printed, status = self.run_on([b"fly\nset sys", b"_platform darwin\nsh", b"ow"])
+        then = answer(started)[0]
+        self.assertEqual(([text.decode() for text in printed], status), ([first, "refused 1\tcommand\n", then, "", then], 1))
+        self.assertEqual(self.run_on([b"show"])[1], 0)
+
+    def test_refused(self):
+        with refused(self, pylock.InvalidLock, "toml"):
+            _library.run_start(b"x", b"{", False)
+        with refused(self, pylock.InvalidEnvironment, "json"):
+            _library.run_start(LOCK, b"{", True)
+        kept, _ = _library.run_start(LOCK, linux()._json, False)
+        _library.run_end(kept, False)
+        for call in (lambda: _library.run_feed(kept, False, b""), lambda: _library.run_end(kept, False)):
+            self.assertRaisesRegex(ValueError, "closed", call)
+
+    def test_limits(self):
+        for pieces in ([b"show\n" * 1_000_000, b"", b"s"], [b"\n" * 1_000_001], [b"x" * 268_435_456, b"x"]):
+            kept, _ = _library.run_start(b'lock-version = "1.0"\ncreated-by = "t"\n', linux()._json, False)
+            for piece in pieces[:-1]:
+                _library.run_feed(kept, False, piece)
+            with refused(self, pylock.InvalidEdit, "input"):
+                _library.run_feed(kept, False, pieces[-1])
+            # it may only be let go of
+            self.assertRaisesRegex(ValueError, "closed", _library.run_feed, kept, False, b"")
+
+    def test_asked(self):
+        for words, wanted in (
+            (["select", "a", "b"], ("a", "b", None, None, None, None)), (["select", "--json", "--", "-a", "\t\\n"], ("-a", "\t\\n", None, None, None, "json")),
+            (["select", "a", "--python=3.12", "--platform", "-", "--strict"], ("a", None, "3.12", "-", "strict", None)), (["select", "a"], None),
+            (["select", "-", "a"], None), (["plan", "a", "b"], None), ([], None), (["select", "--help"], None), (["select", "\u00e9", "b"], ("\u00e9", "b", None, None, None, None)),
+        ):
+            self.assertEqual(_library.select_asked(tuple([b"pylock", *[word.encode() for word in words]])), wanted, words)
 
 
 if __name__ == "__main__":

@@ -14,6 +14,7 @@ import unittest
 from support import MODULE, PYTHON, refused
 
 import pylock
+from pylock import _library
 
 LOCK = b"""
 lock-version = "1.0"
@@ -333,6 +334,17 @@ class Threads(unittest.TestCase):
         made = []
         self.assertEqual(self.elsewhere(lambda: made.append(pylock.Session(LOCK, linux()))), [])
         made.clear()
+
+    def test_run_elsewhere(self):
+        """A run stays on its thread as a session does, and shares what the thread has."""
+        kept, first = _library.run_start(LOCK, linux()._json, False)
+        for call in (lambda: _library.run_feed(kept, False, b"show\n"), lambda: _library.run_end(kept, False)):
+            self.assertEqual([type(error) for error in self.elsewhere(call)], [RuntimeError])
+        self.assertEqual(_library.run_feed(kept, False, b"show\n"), first)
+        holder, owner = [_library.run_start(LOCK, linux()._json, True)[0]], kept.owner
+        self.assertEqual((self.elsewhere(holder.clear), owner.graves), ([], 1))
+        self.assertIs(pylock.Session(LOCK, linux())._kept.owner, owner)
+        self.assertEqual(owner.graves, 0)
 
     def test_of_a_thread_that_ended(self):
         """Threads that begin later have the number of one that ended, and not what it had."""

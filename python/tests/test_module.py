@@ -214,34 +214,5 @@ class Installed(unittest.TestCase):
                 self.assertIn(told, missing.stdout)
 
 
-class Command(unittest.TestCase):
-    def run_command(self, *words):
-        environment = dict(os.environ, PYTHONPATH=MODULE)
-        ran = subprocess.run([sys.executable, "-m", "pylock", *words], env=environment, stdout=subprocess.PIPE, stderr=subprocess.PIPE, cwd=TOP)
-        return ran.returncode, ran.stdout.decode(), ran.stderr.decode()
-
-    def test_command(self):
-        status, printed, told = self.run_command("audit", "examples/audited.toml")
-        self.assertEqual((status, printed, told), (1, text_of("examples", "audited.txt"), ""))
-        status, printed, told = self.run_command("plan", "/no/such/lock", "examples/linux.json")
-        self.assertEqual((status, printed, told), (3, "", "pylock: file: /no/such/lock: no such file or directory\n"))
-        status, printed, told = self.run_command("plan", "examples/linux.json", "examples/linux.json")
-        self.assertEqual((status, printed), (2, "lock\ttoml\n"))
-        self.assertTrue(told.startswith("pylock: examples/linux.json"), told)
-        status, printed, told = self.run_command("plan", "examples/pylock.toml", "examples/linux.json", "--extra", "tset", "--json")
-        self.assertEqual((status, printed), (1, '{"pylock":1,"refused":["extra","tset"]}\n'))
-        self.assertEqual(self.run_command("fly")[0], 2)
-        self.assertEqual(self.run_command("audit", "examples/audited.toml", "--js")[0], 2)
-
-    @unittest.skipUnless(os.path.exists("/dev/full"), "there is no /dev/full")
-    def test_full(self):
-        for words in (["files", "examples/pylock.toml"], ["plan", "examples/pylock.toml", "examples/linux.json", "--extra", "tset"]):
-            with open("/dev/full", "wb") as full:
-                ran = subprocess.run(
-                    [sys.executable, "-m", "pylock", *words], env=dict(os.environ, PYTHONPATH=MODULE), stdout=full, stderr=subprocess.PIPE, cwd=TOP
-                )
-            self.assertEqual((ran.returncode, ran.stderr), (3, b"pylock: write\n"))
-
-
 if __name__ == "__main__":
     unittest.main()

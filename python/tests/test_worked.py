@@ -1,22 +1,18 @@
 """The worked examples of the repository, once through Python: the rows of crates/cases and of tools/check/rows and what stands
 beside them as expected, and the example of the README."""
 
-import contextlib
-import io
-import json
 import os
 import re
 import sys
 import tempfile
 import unittest
 
-from support import TOP, bytes_of, text_of, toml
+from support import TOP, bytes_of, call_main, text_of, toml
 
 sys.path.append(os.path.join(TOP, "tools", "check", "rows"))
 from worked import bytes_in, title_of
 
 import pylock
-import pylock.__main__
 from pylock import _library as _native
 
 READER = toml()
@@ -47,16 +43,13 @@ def answers():
     return found
 
 
-def without_place(report):
-    """What the module's command prints where the program prints this: of a refused document its words alone, since the
-    module tells a person nothing of where they point."""
-    document = json.loads(report) if report.startswith("{") and report.count("\n") == 1 else {}
-    return pylock.__main__._refused(document["refused"], True) if "refused" in document else report
-
-
 def field(text):
     """A text as the program prints it in a field."""
-    return "-" if text is None else pylock.__main__._field(text)
+    if text is None or text == "-":
+        return "-" if text is None else "\\-"
+    for sign, escape in (("\\", "\\\\"), ("\t", "\\t"), ("\n", "\\n"), ("\r", "\\r")):
+        text = text.replace(sign, escape)
+    return text
 
 
 def reply(words):
@@ -168,11 +161,8 @@ def commanded(words, lock, environment):
         for name, content in (("lock", lock), ("environment", environment)):
             with open(os.path.join(folder, name), "wb") as file:
                 file.write(content)
-        names = [os.path.join(folder, word) if word in ("lock", "environment") else word for word in words]
-        out, error = io.TextIOWrapper(io.BytesIO(), "utf-8", newline="\n"), io.TextIOWrapper(io.BytesIO(), "utf-8")
-        with contextlib.redirect_stdout(out), contextlib.redirect_stderr(error):
-            status = pylock.__main__.main(names)
-        return out.buffer.getvalue().decode(), status
+        status, printed, _ = call_main(words, folder)
+        return printed.decode(), status
 
 
 @unittest.skipIf(READER is None, "there is no reader of TOML")
@@ -235,7 +225,7 @@ class Worked(unittest.TestCase):
                     more, mark, rest = rest.partition("status ")
                     report += "status " + more
                 with self.subTest((name, line)):
-                    self.assertEqual(commanded(words_of(line), lock, environment), (without_place(report), int(rest[0])))
+                    self.assertEqual(commanded(words_of(line), lock, environment), (report, int(rest[0])))
                     count += 1
         return count
 

@@ -550,6 +550,65 @@ static void sets(void)
     IS(pylock_set_admits(&set, TEXT("3"), &admits), PYLOCK_EMPTY);
 }
 
+typedef int32_t (*set_call)(pylock_set *first, pylock_set *second, int32_t *answer,
+                            pylock_text *witness);
+
+/* What a call answers on two sets; 77 where it is refused. */
+static int32_t asked_of_sets(set_call call, const char *first, const char *second,
+                             pylock_text *witness)
+{
+    pylock_set one = {0}, other = {0};
+    int32_t answer = 77;
+    IS(pylock_set_parse(&one, TEXT(first)), PYLOCK_OK);
+    IS(pylock_set_parse(&other, TEXT(second)), PYLOCK_OK);
+    IS(call(&one, &other, &answer, witness), PYLOCK_OK);
+    HOLDS(one.full && other.full);
+    pylock_set_free(&one);
+    pylock_set_free(&other);
+    return answer;
+}
+
+/* whether the kept text is a version, which a set is to admit or not */
+static bool shows(pylock_text *witness, const char *set, bool is_admitted)
+{
+    uint8_t out[64];
+    size_t needed = 0;
+    bool admits = !is_admitted;
+    IS(pylock_text_copy(witness, out, sizeof out, &needed), PYLOCK_OK);
+    IS(pylock_admits(TEXT(set), out, needed, &admits), PYLOCK_OK);
+    return admits == is_admitted;
+}
+
+static void asked_sets(void)
+{
+    pylock_set set = {0}, other = {0};
+    pylock_text witness = {0};
+    int32_t answer = 77;
+    IS(pylock_set_is_subset(&set, &other, &answer, &witness), PYLOCK_EMPTY);
+    IS(pylock_set_parse(&set, TEXT(">=2,<1")), PYLOCK_OK);
+    IS(pylock_set_is_subset(&set, &other, &answer, &witness), PYLOCK_EMPTY);
+    IS(pylock_set_is_disjoint(&other, &set, &answer, &witness), PYLOCK_EMPTY);
+    IS(pylock_set_is_unsatisfiable(&other, &answer, &witness), PYLOCK_EMPTY);
+    HOLDS(answer == 77 && !witness.full);
+    IS(pylock_set_is_unsatisfiable(&set, &answer, &witness), PYLOCK_OK);
+    HOLDS(answer == PYLOCK_YES && !witness.full);
+    IS(pylock_set_parse(&set, TEXT(">=1,<2")), PYLOCK_OK);
+    IS(pylock_set_is_unsatisfiable(&set, &answer, &witness), PYLOCK_OK);
+    HOLDS(answer == PYLOCK_NO && shows(&witness, ">=1,<2", true));
+    IS(pylock_set_parse(&set, TEXT("===a,===b")), PYLOCK_OK);
+    IS(pylock_set_is_unsatisfiable(&set, &answer, &witness), PYLOCK_OK);
+    HOLDS(answer == PYLOCK_UNDECIDED && shows(&witness, ">=1,<2", true));
+    pylock_set_free(&set);
+    HOLDS(asked_of_sets(pylock_set_is_subset, "==1.4.*", ">=1,<2", &witness) == PYLOCK_YES);
+    HOLDS(shows(&witness, ">=1,<2", true));
+    HOLDS(asked_of_sets(pylock_set_is_subset, ">=1,<3", ">=1,<2", &witness) == PYLOCK_NO);
+    HOLDS(shows(&witness, ">=1,<3", true) && shows(&witness, ">=1,<2", false));
+    HOLDS(asked_of_sets(pylock_set_is_disjoint, "<2", ">=2", &witness) == PYLOCK_YES);
+    HOLDS(asked_of_sets(pylock_set_is_disjoint, "<=2", ">=2", &witness) == PYLOCK_NO);
+    HOLDS(shows(&witness, "<=2", true) && shows(&witness, ">=2", true));
+    pylock_text_free(&witness);
+}
+
 static void markers(void)
 {
     pylock_marker marker = {0};
@@ -649,6 +708,94 @@ static void extras(void)
     HOLDS(value);
     pylock_marker_free(&marker);
     pylock_environment_free(&environment);
+}
+
+typedef int32_t (*marker_call)(pylock_marker *first, pylock_marker *second, int32_t *answer,
+                               pylock_environment *witness);
+
+/* What a call answers on two markers; 77 where it is refused. */
+static int32_t asked_of_markers(marker_call call, const char *first, const char *second,
+                                pylock_environment *witness)
+{
+    pylock_marker one = {0}, other = {0};
+    int32_t answer = 77;
+    IS(pylock_marker_parse(&one, TEXT(first)), PYLOCK_OK);
+    IS(pylock_marker_parse(&other, TEXT(second)), PYLOCK_OK);
+    IS(call(&one, &other, &answer, witness), PYLOCK_OK);
+    HOLDS(one.full && other.full);
+    pylock_marker_free(&one);
+    pylock_marker_free(&other);
+    return answer;
+}
+
+/* whether the marker has the value in the environment */
+static bool has_value(pylock_environment *environment, const char *text, bool wanted)
+{
+    pylock_marker marker = {0};
+    bool value = !wanted;
+    IS(pylock_marker_parse(&marker, TEXT(text)), PYLOCK_OK);
+    IS(pylock_marker_evaluate(&marker, environment, &value), PYLOCK_OK);
+    pylock_marker_free(&marker);
+    return value == wanted;
+}
+
+static void asked_markers(void)
+{
+    static const char early[] = "python_version < '3.10'", late[] = "python_full_version >= '3.12'";
+    static const char docs[] = "'Docs' in extras";
+    pylock_marker marker = {0}, other = {0};
+    pylock_environment witness = {0};
+    int32_t answer = 77;
+    IS(pylock_marker_implies(&marker, &other, &answer, &witness), PYLOCK_EMPTY);
+    IS(pylock_marker_parse(&marker, TEXT("os_name == 'nt' or os_name != 'nt'")), PYLOCK_OK);
+    IS(pylock_marker_implies(&marker, &other, &answer, &witness), PYLOCK_EMPTY);
+    IS(pylock_marker_is_disjoint(&other, &marker, &answer, &witness), PYLOCK_EMPTY);
+    IS(pylock_marker_is_never_true(&other, &answer, &witness), PYLOCK_EMPTY);
+    IS(pylock_marker_is_never_false(&other, &answer, &witness), PYLOCK_EMPTY);
+    HOLDS(answer == 77 && !witness.full);
+    IS(pylock_marker_is_never_false(&marker, &answer, &witness), PYLOCK_OK);
+    HOLDS(answer == PYLOCK_YES && !witness.full);
+    IS(pylock_marker_is_never_true(&marker, &answer, &witness), PYLOCK_OK);
+    HOLDS(answer == PYLOCK_NO && has_value(&witness, "os_name == 'nt' or os_name != 'nt'", true));
+    IS(pylock_marker_parse(&marker, TEXT("os_name == 'nt' and sys_platform == 'linux'")), PYLOCK_OK);
+    IS(pylock_marker_is_never_true(&marker, &answer, &witness), PYLOCK_OK);
+    HOLDS(answer == PYLOCK_YES && witness.full);
+    IS(pylock_marker_is_never_false(&marker, &answer, &witness), PYLOCK_OK);
+    HOLDS(answer == PYLOCK_NO &&
+          has_value(&witness, "os_name == 'nt' and sys_platform == 'linux'", false));
+    pylock_marker_free(&marker);
+    HOLDS(asked_of_markers(pylock_marker_is_disjoint, early, late, &witness) == PYLOCK_YES);
+    HOLDS(asked_of_markers(pylock_marker_implies, late, "python_version > '3.10'", &witness) ==
+          PYLOCK_YES);
+    HOLDS(asked_of_markers(pylock_marker_is_disjoint, late, docs, &witness) == PYLOCK_NO);
+    HOLDS(has_value(&witness, late, true) && has_value(&witness, docs, true));
+    HOLDS(asked_of_markers(pylock_marker_implies, docs, early, &witness) == PYLOCK_NO);
+    HOLDS(has_value(&witness, docs, true) && has_value(&witness, early, false));
+    pylock_environment_free(&witness);
+}
+
+static void environment_records(void)
+{
+    pylock_environment environment = {0};
+    pylock_text record = {0};
+    IS(pylock_environment_record(&environment, &record), PYLOCK_EMPTY);
+    HOLDS(!record.full);
+    IS(pylock_environment_new(&environment), PYLOCK_OK);
+    IS(pylock_environment_record(&environment, &record), PYLOCK_OK);
+    HOLDS(has(&record, ""));
+    IS(pylock_environment_add_group(&environment, TEXT("Docs")), PYLOCK_OK);
+    IS(pylock_environment_add_extra(&environment, TEXT("b")), PYLOCK_OK);
+    IS(pylock_environment_add_extra(&environment, TEXT("A_a")), PYLOCK_OK);
+    IS(pylock_environment_set(&environment, TEXT("python_version"), TEXT("-")), PYLOCK_OK);
+    IS(pylock_environment_set(&environment, TEXT("os_name"), TEXT("a\tb")), PYLOCK_OK);
+    IS(pylock_environment_set(&environment, TEXT("platform_release"), TEXT("")), PYLOCK_OK);
+    IS(pylock_environment_record(&environment, &record), PYLOCK_OK);
+    HOLDS(has(&record, "os_name\ta\\tb\tplatform_release\t\tpython_version\t\\-"
+                       "\textras\ta-a\textras\tb\tdependency_groups\tdocs"));
+    pylock_environment_free(&environment);
+    IS(pylock_environment_record(&environment, &record), PYLOCK_EMPTY);
+    HOLDS(record.full);
+    pylock_text_free(&record);
 }
 
 static const char LOCK[] = "lock-version = \"1.0\"\ncreated-by = \"me\"\nextras = [\"A_b\"]\n"
@@ -1162,6 +1309,243 @@ static void sessions(void)
     last_number();
 }
 
+/* ---- the whole program ---- */
+
+/* joined texts */
+struct joined {
+    size_t lengths[8], count, length;
+    uint8_t bytes[2048];
+};
+
+/* joins the texts up to NULL */
+static void join(struct joined *joined, const char *const *texts)
+{
+    joined->count = joined->length = 0;
+    for (; *texts; texts++) {
+        size_t length = strlen(*texts);
+        memcpy(joined->bytes + joined->length, *texts, length);
+        joined->lengths[joined->count++] = length;
+        joined->length += length;
+    }
+}
+
+#define JOIN(joined, ...) join((joined), (const char *const[]){__VA_ARGS__, NULL})
+#define PARTS(joined) (joined).lengths, (joined).count, (joined).bytes, (joined).length
+
+/* what a run of the program left */
+struct left {
+    pylock_text output, diagnostics;
+    int32_t status;
+};
+
+static int32_t run_program(const struct joined *words, const struct joined *files,
+                           const char *input, struct left *left)
+{
+    return pylock_main(PARTS(*words), PARTS(*files), TEXT(input), &left->output,
+                       &left->diagnostics, &left->status);
+}
+
+/* Whether a run left this. What there was no memory for isn't told on standard error. */
+static bool has_left(struct left *left, int32_t status, const char *output,
+                     const char *diagnostics)
+{
+    return left->status == status && has(&left->output, output) &&
+           (may_refuse || has(&left->diagnostics, diagnostics));
+}
+
+static void program(void)
+{
+    struct joined words, files, none = {{0}, 0, 0, {0}};
+    struct left left = {{0}, {0}, 77};
+    JOIN(&files, "lock", EDITED, "environment", TAGGED, "lock", "x");
+    JOIN(&words, "pylock", "plan", "lock", "environment");
+    IS(run_program(&words, &files, "", &left), PYLOCK_OK);
+    HOLDS(has_left(&left, 0, "plan 1\n" ENTRY_A, ""));
+    IS(run_program(&words, &none, "", &left), PYLOCK_OK);
+    HOLDS(has_left(&left, 3, "", "pylock: file: lock: no such file\n"));
+    JOIN(&words, "pylock", "plan", "-", "environment", "--extra", "x");
+    IS(run_program(&words, &files, EDITED, &left), PYLOCK_OK);
+    HOLDS(has_left(&left, 1, "refused\textra\tx\n",
+                   "pylock: --extra: `x`: not an extra of -; its only extra is sci\n"));
+    JOIN(&words, "pylock", "select", "lock", "environment", "--json");
+    IS(run_program(&words, &files, "fly", &left), PYLOCK_OK);
+    HOLDS(has_left(&left, 1,
+                   "{\"plan\":[{\"id\":1,\"kind\":\"directory\",\"name\":\"a\",\"path\":\"a\","
+                   "\"place\":\"a\",\"version\":\"1\"}],\"pylock\":1}\n"
+                   "{\"line\":1,\"pylock\":1,\"refused\":[\"command\"]}\n",
+                   ""));
+    JOIN(&words, "pylock", "name", "A.b");
+    IS(run_program(&words, &none, "", &left), PYLOCK_OK);
+    HOLDS(has_left(&left, 0, "a-b\n", ""));
+    JOIN(&words, "pylock", "fly");
+    IS(run_program(&words, &none, "", &left), PYLOCK_OK);
+    HOLDS(left.status == 2 && has(&left.output, ""));
+    JOIN(&words, "pylock", "name", "\xff");
+    IS(run_program(&words, &none, "", &left), PYLOCK_OK);
+    HOLDS(has_left(&left, 2, "", "pylock: a word of the command line is not UTF-8\n"));
+    JOIN(&words, "pylock", "name", "");
+    IS(run_program(&words, &none, "", &left), PYLOCK_OK);
+    HOLDS(left.status == 1 && has(&left.output, "refused\tname\n"));
+    /* lengths that don't add up, of words and of files; nothing is changed */
+    left.status = 77;
+    words.lengths[2]++;
+    IS(run_program(&words, &none, "", &left), PYLOCK_PARTS);
+    words.lengths[2] = SIZE_MAX;
+    IS(run_program(&words, &none, "", &left), PYLOCK_PARTS);
+    JOIN(&words, "pylock", "name", "a");
+    files.length--;
+    IS(run_program(&words, &files, "", &left), PYLOCK_PARTS);
+    HOLDS(left.status == 77 && has(&left.output, "refused\tname\n"));
+    pylock_text_free(&left.output);
+    pylock_text_free(&left.diagnostics);
+}
+
+static void asked(void)
+{
+    struct joined words;
+    pylock_text record = {0};
+    JOIN(&words, "pylock", "select", "a\tb", "-");
+    IS(pylock_select_asked(PARTS(words), &record), PYLOCK_OK);
+    HOLDS(has(&record, ""));
+    JOIN(&words, "pylock", "select", "a\tb", "c", "--strict");
+    IS(pylock_select_asked(PARTS(words), &record), PYLOCK_OK);
+    HOLDS(has(&record, "a\\tb\tc\t-\t-\tstrict\t-"));
+    JOIN(&words, "pylock", "select", "--json", "a", "--python=-", "--platform", "linux");
+    IS(pylock_select_asked(PARTS(words), &record), PYLOCK_OK);
+    HOLDS(has(&record, "a\t-\t\\-\tlinux\t-\tjson"));
+    words.lengths[0]--;
+    IS(pylock_select_asked(PARTS(words), &record), PYLOCK_PARTS);
+    HOLDS(has(&record, "a\t-\t\\-\tlinux\t-\tjson"));
+    JOIN(&words, "pylock", "plan", "a", "b");
+    IS(pylock_select_asked(PARTS(words), &record), PYLOCK_OK);
+    HOLDS(has(&record, ""));
+    JOIN(&words, "pylock", "select", "\xff", "b");
+    IS(pylock_select_asked(PARTS(words), &record), PYLOCK_OK);
+    HOLDS(has(&record, ""));
+    pylock_text_free(&record);
+}
+
+/* A piece of the input of a run, and what it has the run print; of the first one that is at its
+   start, and of the last one at its end. */
+struct piece {
+    const char *bytes, *prints;
+};
+
+/* Feeds a run the pieces, whether they print so; the code of the call that ends it. */
+static int32_t feed_each(pylock_run *run, bool json, const struct piece *pieces, size_t count,
+                         bool *is_right)
+{
+    pylock_text text = {0};
+    int32_t status = 77;
+    int32_t code = pylock_run_start(run, TEXT(EDITED), TEXT(TAGGED), json, &text);
+    *is_right = code == PYLOCK_OK && has(&text, pieces[0].prints);
+    for (size_t i = 1; code == PYLOCK_OK && i + 1 < count; i++) {
+        code = pylock_run_feed(run, json, TEXT(pieces[i].bytes), &text);
+        *is_right = *is_right && code == PYLOCK_OK && has(&text, pieces[i].prints);
+    }
+    if (code == PYLOCK_OK) {
+        code = pylock_run_end(run, json, &text, &status);
+        *is_right = *is_right && has(&text, pieces[count - 1].prints) && status == 1;
+    }
+    pylock_text_free(&text);
+    return code;
+}
+
+/* the same with a run that begins anew where memory is refused: it may only be freed then */
+static void take_pieces(bool json, const struct piece *pieces, size_t count)
+{
+    pylock_run run = {0};
+    bool is_right = false;
+    int32_t code = feed_each(&run, json, pieces, count, &is_right);
+    if (gave_up(code)) {
+        pylock_run_free(&run);
+        code = feed_each(&run, json, pieces, count, &is_right);
+    }
+    is(__LINE__, code, PYLOCK_OK);
+    HOLDS(is_right && !run.full && !run.kept);
+    pylock_run_free(&run);
+}
+
+#define COUNTED(pieces) (pieces), sizeof(pieces) / sizeof *(pieces)
+
+static void runs(void)
+{
+    static const struct piece lines[] = {
+        {"", "plan 1\n" ENTRY_A},
+        {"ext", ""},
+        {"ra+ sci\nfly\n", "plan 2\n" ENTRY_A ENTRY_B "refused 2\tcommand\n"},
+        {"", ""},
+        {"\n\xff\nextra- sc", "refused 3\tcommand\nrefused 4\ttext\n"},
+        {"i\r\nfly", "plan 1\n" ENTRY_A},
+        {"", "refused 6\tcommand\n"},
+    };
+    static const struct piece documents[] = {
+        {"", "{\"plan\":[{\"id\":1,\"kind\":\"directory\",\"name\":\"a\",\"path\":\"a\","
+             "\"place\":\"a\",\"version\":\"1\"}],\"pylock\":1}\n"},
+        {"fly\nfly", "{\"line\":1,\"pylock\":1,\"refused\":[\"command\"]}\n"},
+        {"", "{\"line\":2,\"pylock\":1,\"refused\":[\"command\"]}\n"},
+    };
+    take_pieces(false, COUNTED(lines));
+    take_pieces(true, COUNTED(documents));
+}
+
+static void refused_runs(void)
+{
+    pylock_run run = {0};
+    pylock_text text = {0};
+    int32_t status = 77;
+    IS(pylock_run_feed(&run, false, TEXT("show\n"), &text), PYLOCK_EMPTY);
+    IS(pylock_run_end(&run, false, &text, &status), PYLOCK_EMPTY);
+    pylock_run_free(&run);
+    HOLDS(!run.full && !text.full && status == 77);
+    IS(pylock_run_start(&run, TEXT("x"), TEXT("x"), true, &text), PYLOCK_LOCK_REFUSED);
+    HOLDS(has(&text, "lock\ttoml\n") && !run.full);
+    IS(pylock_run_start(&run, TEXT(EDITED), TEXT(TAGGED), false, &text), PYLOCK_OK);
+    HOLDS(run.full && has(&text, "plan 1\n" ENTRY_A));
+    IS(pylock_run_start(&run, TEXT(EDITED), TEXT("{}"), false, &text), PYLOCK_ENVIRONMENT_REFUSED);
+    HOLDS(run.full && has(&text, "environment\tshape\n"));
+    /* a filled slot gets another run */
+    IS(pylock_run_start(&run, TEXT(EMPTY), TEXT(TAGGED), false, &text), PYLOCK_OK);
+    HOLDS(has(&text, "plan 0\n"));
+    pylock_run_free(&run);
+    HOLDS(!run.full && !run.kept);
+    pylock_text_free(&text);
+}
+
+/* Inputs that pass a limit. Not with refused allocations, which would be too many, so it isn't
+   counted. */
+static void passed_limits(void)
+{
+    static uint8_t lines[1000001];
+    pylock_run run = {0};
+    pylock_text text = {0};
+    size_t length = 0;
+    if (may_refuse) return;
+    memset(lines, '\n', sizeof lines);
+    for (int more = 0; more < 2; more++) {
+        if (pylock_run_start(&run, TEXT(EMPTY), TEXT(TAGGED), false, &text) != PYLOCK_OK)
+            holds(__LINE__, false);
+        if (pylock_run_feed(&run, false, lines, sizeof lines - 1, &text) != PYLOCK_OK)
+            holds(__LINE__, false);
+        if (pylock_text_length(&text, &length) != PYLOCK_OK || length < sizeof lines)
+            holds(__LINE__, false);
+        if (pylock_run_feed(&run, false, lines, (size_t)more, &text) !=
+            (more ? PYLOCK_INPUT : PYLOCK_OK))
+            holds(__LINE__, false);
+        pylock_run_free(&run);
+    }
+    pylock_text_free(&text);
+}
+
+static void whole_program(void)
+{
+    program();
+    asked();
+    runs();
+    refused_runs();
+    passed_limits();
+}
+
 /* ---- edits of each kind ---- */
 
 /* what a session shows: the numbers judged last, what becomes of each entry, and the answer */
@@ -1374,13 +1758,17 @@ static void calls(void)
     tags();
     sdists();
     sets();
+    asked_sets();
     markers();
     marker_trees();
     extras();
+    asked_markers();
+    environment_records();
     answers();
     picks();
     reads();
     sessions();
+    whole_program();
 }
 
 int main(int count, char **words)

@@ -1,10 +1,13 @@
 /* What the module of tools/make/wasm has beside the code of the kit: the three functions by which that code asks for
    memory, and two by which the host does. It takes no header, which the kit doesn't have, and calls nothing.
 
-   The allocator is the well-known one of two-level segregated lists (TLSF): a block that is free stands in the list of
-   its size, 16 lists between one power of two and the next; bits say which lists have blocks, so that each call takes a
-   bounded number of steps. Blocks lie behind one another, and a block that is freed joins its free neighbours. */
+   The allocator is two well-known ones. Of a small block there are many at a time, and it lies in a page of blocks of one size,
+   as those of mimalloc: a page keeps a list of its free blocks, and goes where it came from when all are free. Pages and
+   large blocks come from two-level segregated lists (TLSF): a block that is free stands in the list of its size, 16 lists
+   between one power of two and the next; bits say which lists have blocks. Blocks lie behind one another, and a block that is
+   freed joins its free neighbours. Each call takes a bounded number of steps, but for what is copied. */
 typedef __SIZE_TYPE__ size_t;
+typedef __UINT8_TYPE__ uint8_t;
 typedef __UINT32_TYPE__ uint32_t;
 typedef __UINT64_TYPE__ uint64_t;
 
@@ -156,19 +159,157 @@ static int grow(size_t size)
     return 1;
 }
 
-static void *get(size_t size)
+/* a block of at least this size; null where there is none */
+static struct block *obtain(size_t size)
 {
-    struct block *block;
-    if (size > MOST) return 0;
-    size = size ? (size + UNIT - 1) & ~(size_t)(UNIT - 1) : UNIT;
-    block = find(size);
-    if (!block) {
-        if (!grow(size)) return 0;
-        block = find(size);
-        if (!block) return 0;
-    }
+    struct block *block = find(size);
+    if (!block && grow(size)) block = find(size);
+    return block;
+}
+
+static void *get_large(size_t size)
+{
+    struct block *block = obtain(size);
+    if (!block) return 0;
     cut(block, size);
     return (unsigned char *)block + HEAD;
+}
+
+/* ---- small blocks */
+
+#define MOST_SMALL 1024
+/* of a page, what isn't the head of the next block */
+#define PAGE_BYTES (PAGE - HEAD)
+
+struct small {
+    struct small *next;
+};
+struct page {
+    struct page *next, *last;  /* of the same size, in the list of those that have a free block */
+    struct small *free;        /* what was given back */
+    uint32_t used, fresh;      /* how many blocks are given away; where those begin that never were */
+};
+_Static_assert(sizeof(struct page) % UNIT == 0, "blocks are aligned to 16 bytes");
+/* by the size in units of 16 bytes */
+static struct page *pages[MOST_SMALL / UNIT + 1];
+/* of each 64 kB of memory, up to the 16 GB that an engine gives: the size of its blocks where they are a page; else 0 */
+static uint8_t units[1 << 18];
+
+static size_t number_of(const void *at) { return (size_t)at / PAGE; }
+/* the size of a small block; 0 of a large one */
+static size_t small_size(const void *at) { return number_of(at) < sizeof units ? units[number_of(at)] * (size_t)UNIT : 0; }
+static int is_full(const struct page *page, size_t size) { return !page->free && page->fresh + size > PAGE_BYTES; }
+
+static void put_page(struct page *page, size_t size)
+{
+    struct page **first = &pages[size / UNIT];
+    page->last = 0;
+    page->next = *first;
+    if (*first) (*first)->last = page;
+    *first = page;
+}
+
+static void take_page(struct page *page, size_t size)
+{
+    if (page->next) page->next->last = page->last;
+    if (page->last) page->last->next = page->next;
+    else pages[size / UNIT] = page->next;
+}
+
+/* a page of blocks of this size, in its list; null where there is no memory for one */
+static struct page *new_page(size_t size)
+{
+    struct block *block = obtain(2 * PAGE + UNIT), *front = block;
+    struct page *page;
+    size_t from;
+    if (!block) return 0;
+    from = (size_t)block + HEAD;
+    page = (struct page *)((from + PAGE - 1) & ~(size_t)(PAGE - 1));
+    if ((size_t)page - from == UNIT) page = (struct page *)((size_t)page + PAGE);
+    if (number_of(page) >= sizeof units) {
+        give(block);
+        return 0;
+    }
+    if ((size_t)page != from) {
+        block = block_of(page);
+        block->before = front;
+        block->size = front->size - ((size_t)page - from);
+        front->size -= block->size + HEAD;
+        behind(block)->before = block;
+        give(front);
+    }
+    cut(block, PAGE_BYTES);
+    page->free = 0;
+    page->used = 0;
+    page->fresh = sizeof(struct page);
+    units[number_of(page)] = (uint8_t)(size / UNIT);
+    put_page(page, size);
+    return page;
+}
+
+static void *get_small(size_t size)
+{
+    struct page *page = pages[size / UNIT];
+    struct small *block;
+    if (!page) page = new_page(size);
+    if (!page) return get_large(size);
+    block = page->free;
+    if (block) {
+        page->free = block->next;
+    } else {
+        block = (struct small *)((unsigned char *)page + page->fresh);
+        page->fresh += (uint32_t)size;
+    }
+    page->used++;
+    if (is_full(page, size)) take_page(page, size);
+    return block;
+}
+
+static void give_small(void *at, size_t size)
+{
+    struct page *page = (struct page *)((size_t)at & ~(size_t)(PAGE - 1));
+    struct small *block = at;
+    if (is_full(page, size)) put_page(page, size);
+    block->next = page->free;
+    page->free = block;
+    page->used--;
+    /* the only one with a free block stays */
+    if (page->used || (!page->next && !page->last)) return;
+    take_page(page, size);
+    units[number_of(page)] = 0;
+    give(block_of(page));
+}
+
+/* ---- blocks of any size */
+
+static size_t rounded(size_t size) { return size ? (size + UNIT - 1) & ~(size_t)(UNIT - 1) : UNIT; }
+
+static void *get(size_t size)
+{
+    if (size > MOST) return 0;
+    size = rounded(size);
+    return size <= MOST_SMALL ? get_small(size) : get_large(size);
+}
+
+static void put_back(void *at)
+{
+    size_t size = small_size(at);
+    if (size) give_small(at, size);
+    else give(block_of(at));
+}
+
+/* makes a large block one of this size where it lies, if there is room */
+static int is_resized(struct block *block, size_t size)
+{
+    struct block *other = behind(block);
+    if (size > block->size && is_free(other) && block->size + HEAD + size_of(other) >= size) {
+        take_out(other);
+        block->size += HEAD + other->size;
+        behind(block)->before = block;
+    }
+    if (size > block->size) return 0;
+    cut(block, size);
+    return 1;
 }
 
 /* what the kit's code calls, in the form of its c/heap.c: `ok` is 1 where there is memory, and `at` is never null */
@@ -190,30 +331,21 @@ struct got rattle_alloc(size_t size, size_t align)
 
 void rattle_dealloc(void *at)
 {
-    give(block_of(at));
+    put_back(at);
 }
 
 struct got rattle_realloc(void *at, size_t old_size, size_t size, size_t align)
 {
-    struct block *block = block_of(at), *other = behind(block);
-    size_t asked;
+    size_t small = small_size(at), asked = rounded(size);
     void *new;
     (void)align;
     if (size > MOST) return got(0);
-    asked = size ? (size + UNIT - 1) & ~(size_t)(UNIT - 1) : UNIT;
-    if (asked > block->size && is_free(other) && block->size + HEAD + size_of(other) >= asked) {
-        take_out(other);
-        block->size += HEAD + other->size;
-        behind(block)->before = block;
-    }
-    if (asked <= block->size) {
-        cut(block, asked);
-        return got(at);
-    }
+    /* a block that would be half empty moves */
+    if (small ? asked <= small && asked > small / 2 : is_resized(block_of(at), asked)) return got(at);
     new = get(size);
     if (new) {
         __builtin_memcpy(new, at, old_size < size ? old_size : size);
-        give(block);
+        put_back(at);
     }
     return got(new);
 }
@@ -226,5 +358,5 @@ __attribute__((export_name("room"))) void *room(size_t size)
 
 __attribute__((export_name("free_room"))) void free_room(void *at)
 {
-    if (at) give(block_of(at));
+    if (at) put_back(at);
 }

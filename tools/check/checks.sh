@@ -59,7 +59,7 @@ is_expected() { # is_expected WANT GOT: whether a file has the bytes of the file
 counted() {
     local line
     line=$(grep -av '^[[:space:]]*$' "$1" | tail -n 1)
-    [[ $line =~ ^([a-z-]+:\ )?([0-9]+)\ passed,\ ([0-9]+)\ failed(,\ ([0-9]+)\ skipped)?$ ]] || return 1
+    [[ $line =~ ^([a-z0-9-]+:\ )?([0-9]+)\ passed,\ ([0-9]+)\ failed(,\ ([0-9]+)\ skipped)?$ ]] || return 1
     passed=$((passed + BASH_REMATCH[2]))
     failed=$((failed + BASH_REMATCH[3]))
     skipped=$((skipped + ${BASH_REMATCH[5]:-0}))
@@ -80,7 +80,7 @@ blame_calls() {
     local more
     nm -D --undefined-only "$1" | awk '{ sub(/@.*/, "", $NF); print $NF }' >"$work/calls"
     more=$(grep -vE '^_?Py|^_ITM_|^__cxa_finalize$|^__gmon_start__$' "$work/calls" |
-        grep -vxE 'malloc|realloc|free|mem(chr|cmp|cpy|move|set)|bcmp|str(cspn|len|ncmp|tol)|__stack_chk_fail' | paste -sd ' ')
+        grep -vxE 'malloc|realloc|free|mem(chr|cmp|cpy|move|set)|bcmp|str(cspn|len|ncmp|tol)|__stack_chk_(fail|guard)' | paste -sd ' ')
     [ -z "$more" ] || blame "it calls $more"
     grep -qx __stack_chk_fail "$work/calls" || blame "its arrays have no guard"
     readelf --wide --dynamic "$1" | grep -q BIND_NOW || blame "what it calls is found late"

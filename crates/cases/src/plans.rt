@@ -36,6 +36,7 @@ fn run(alloc: Global, inputs: &Inputs, words: &[&str]) -> anyhow::Result<String>
         outputs: Outputs {
             writer: ToWrite::new(&mut text),
             diagnostics: ToWrite::new(&mut diagnostics),
+            ends_process: false,
         },
     };
     let end = perform(alloc, task, &mut host);

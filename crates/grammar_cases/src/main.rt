@@ -1,12 +1,16 @@
-//! Cases of versions, specifier sets, names, markers, environments, requirements, tags, targets,
-//! wheels and sdists: what each is read as, and what it then says.
+//! Cases of versions, specifier sets, names, markers, their clauses and questions about them,
+//! environments, requirements, tags, targets, wheels and sdists: what each is read as, and what it
+//! then says.
 #![tactic(auto)]
 
+mod algebra;
+mod clauses;
 mod environments;
 mod expected;
 mod markers;
 mod names;
 mod pages;
+mod questions;
 mod requirements;
 mod sdists;
 mod sets;
@@ -34,13 +38,17 @@ impl Answers for Cases {
             "admission" => sets::admit_alone(alloc, case),
             "choice" => wheels::pick(alloc, case),
             "clause" => tell(alloc, case, "text", Specifier::parse, printed_text),
+            "clauses" => clauses::tell(alloc, case),
             "different" => versions::count(alloc, case),
+            "disjoint" => algebra::ask_of_both(alloc, case),
+            "empty" => algebra::ask_of_one(alloc, case),
             "environment" => environments::answer_case(alloc, case),
             "equality" => compare(alloc, case, SpecifierSet::parse, SpecifierSet::eq),
             "expected_marker" => expected::point(alloc, case, "marker"),
             "expected_requirement" => expected::point(alloc, case, "requirement"),
             "expected_set" => expected::point(alloc, case, "set"),
             "expected_specifier" => expected::point(alloc, case, "specifier"),
+            "first_two" => algebra::ask_of_first_two(alloc, case),
             "from_parts" => versions::make_version(alloc, case),
             "front" => sets::cut(alloc, case),
             "items" => sets::tell_items(alloc, case),
@@ -59,6 +67,8 @@ impl Answers for Cases {
             "order" => versions::compare(alloc, case),
             "pages" => pages::answer_case(alloc, case),
             "parts" => versions::tell_parts(alloc, case),
+            "question" => questions::ask(alloc, case),
+            "python_question" => questions::ask_of_python(alloc, case),
             "reads" => markers::tell_reads(alloc, case),
             "requirement" => requirements::answer_case(alloc, case),
             "requirement_text" => requirements::print(alloc, case),
@@ -73,6 +83,7 @@ impl Answers for Cases {
             "still_name" => still::lend(alloc, case),
             "still_version" => still::compare(alloc, case),
             "still_wheels" => still::pick(alloc, case),
+            "subset" => algebra::ask_within(alloc, case),
             "tag" => tags::answer_case(alloc, case),
             "tags" => tags::tell_list(alloc, case),
             "target" => targets::answer_case(alloc, case),

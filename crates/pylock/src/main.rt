@@ -69,6 +69,7 @@ fn perform_here(rt: &HostRuntime, task: Task<'_>) -> Result<u8, Failure> {
         outputs: Outputs {
             writer: output(rt, rt.stdout()),
             diagnostics: output(rt, rt.stderr()),
+            ends_process: true,
         },
     };
     perform(rt.alloc(), task, &mut host)

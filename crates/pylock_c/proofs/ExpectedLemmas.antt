@@ -2,8 +2,8 @@
 use Rattle.std.proofs.Common.{◌≡◌, ℕ, List, Result, Ok, Err, Vec, Global, refl}
 use Rattle.std.specs.Result.{result_map_both}
 use Rattle.pytext.specs.Agreement.{Gives}
-use Rattle.pylock_c.specs.declared.refusal.Refusal.{Refusal}
-use Rattle.pylock_c.specs.declared.refusal.Refusal.TheVariants.{Memory}
+use Rattle.pylock_slots.specs.declared.refusal.Refusal.{Refusal}
+use Rattle.pylock_slots.specs.declared.refusal.Refusal.TheVariants.{Memory}
 
 -- the items of an outcome, or its refusal
 abbrev pub told : Result (Vec ℕ Global) Refusal → Result (List ℕ) Refusal

@@ -1,8 +1,6 @@
-pub mod AnswerLemmas
+pub mod AlgebraLemmas
+pub mod EnvironmentLemmas
 pub mod ExpectedLemmas
-pub mod KeptValues
 pub mod OpeningLemmas
 pub mod RecordLemmas
-pub mod SessionLemmas
-pub mod TextLemmas
-pub mod Values
+pub mod RunLemmas

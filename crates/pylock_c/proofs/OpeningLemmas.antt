@@ -1,30 +1,15 @@
--- What is left where a lock or an environment is refused.
+-- What is left where a lock that is taken strictly, or an environment, is refused.
 use Rattle.std.proofs.Common.{◌≡◌, ℤ, refl, subst, sym}
 use Rattle.std.specs.Prelude.{Option, None, Result, Err}
-use Rattle.pylock_run.specs.Text.Refusal.{refusal_text}
-use Rattle.pylock_run.specs.declared.report.opening.OpenError.{OpenError}
-use Rattle.pylock_c.specs.Opening.{Leaves, Opens, open_refusal}
 use Rattle.pylock_command.specs.declared.form.Form.{Form}
 use Rattle.pylock_program.specs.Refusal.{unopened_printed}
 use Rattle.pylock_program.specs.declared.opening.Unopened.{Unopened}
-use Rattle.pylock_c.specs.Refusal.{number}
+use Rattle.pylock_slots.specs.Opening.{Leaves}
+use Rattle.pylock_slots.specs.Refusal.{number}
+use Rattle.pylock_slots.specs.declared.object.Object.{Object}
+use Rattle.pylock_slots.specs.declared.object.Object.TheVariants as kind
 use Rattle.pylock_c.specs.Strict.{OpensStrictly, unopened_refusal}
-use Rattle.pylock_c.specs.declared.object.Object.{Object}
-use Rattle.pylock_c.specs.declared.object.Object.TheVariants as kind
 
-pub refused_opens : {definition : Result Object OpenError} {refusal : OpenError} {line : Object} {code code' wanted : ℤ}
-    {words words' : Option Object} (slot : Option Object) → definition ≡ Err refusal → line ≡ kind.Text (refusal_text refusal)
-    → code ≡ number (open_refusal refusal) → wanted ≡ code' → Leaves line code words words' code'
-    → Opens definition slot slot words words' wanted
-refused_opens {refusal = refusal} {code = code} {code' = code'} {wanted = wanted} {words = words} {words' = words'} slot is text told same leaves =
-    subst (λ (d : Result Object OpenError). Opens d slot slot words words' wanted) (sym is) (
-      subst (λ (z : ℤ). Leaves (kind.Text (refusal_text refusal)) (number (open_refusal refusal)) words words' z) (sym same)
-          (subst (λ (z : ℤ). Leaves (kind.Text (refusal_text refusal)) z words words' code') told
-          (subst (λ (l : Object). Leaves l code words words' code') text leaves)),
-      refl,
-    )
-
--- the same of a lock that is taken strictly
 pub unopened_opens : (form : Form) {definition : Result Object Unopened} {unopened : Unopened} {text : Object} {code code' wanted : ℤ}
     {words words' : Option Object} (slot : Option Object) → definition ≡ Err unopened → text ≡ kind.Text (unopened_printed form None unopened)
     → code ≡ number (unopened_refusal unopened) → wanted ≡ code' → Leaves text code words words' code'

@@ -21,9 +21,9 @@ use Rattle.pylock_run.specs.declared.line.commands.Command.{Command}
 use Rattle.pylock_run.specs.declared.line.commands.Command.TheVariants as command
 use Rattle.pylock_run.specs.declared.line.refusal.LineRefusal.{LineRefusal}
 use Rattle.pylock_run.specs.declared.line.refusal.LineRefusal.TheVariants as line
-use Rattle.pylock_c.specs.Text.{text_argument}
-use Rattle.pylock_c.specs.declared.edits.NamesEdit.{NamesEdit}
-use Rattle.pylock_c.specs.declared.edits.NamesEdit.TheVariants as names_edit
+use Rattle.pylock_slots.specs.Text.{text_argument}
+use Rattle.pylock_slots.specs.declared.kept_session.NamesEdit.{NamesEdit}
+use Rattle.pylock_slots.specs.declared.kept_session.NamesEdit.TheVariants as names_edit
 
 -- ---- lists
 

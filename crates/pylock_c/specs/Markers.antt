@@ -5,12 +5,12 @@ use Rattle.pymark_core.specs.Environment.{EnvironmentValue}
 use Rattle.pymark_core.specs.Marker.Reading.{MarkerValue, marker_of}
 use Rattle.pymark_core.specs.Marker.Value.{marker_value, value_with}
 use Rattle.pylock_values.specs.MarkerPieces.{marker_record}
-use Rattle.pylock_c.specs.Refusal.{evaluation_refusal, marker_refusal, refuse_as}
-use Rattle.pylock_c.specs.Text.{text_of}
-use Rattle.pylock_c.specs.declared.object.Object.{Object}
-use Rattle.pylock_c.specs.declared.object.Object.TheVariants as kind
-use Rattle.pylock_c.specs.declared.refusal.Refusal.{Refusal}
-use Rattle.pylock_c.specs.declared.refusal.Refusal.TheVariants as refusal
+use Rattle.pylock_slots.specs.Refusal.{evaluation_refusal, marker_refusal, refuse_as}
+use Rattle.pylock_slots.specs.Text.{text_of}
+use Rattle.pylock_slots.specs.declared.object.Object.{Object}
+use Rattle.pylock_slots.specs.declared.object.Object.TheVariants as kind
+use Rattle.pylock_slots.specs.declared.refusal.Refusal.{Refusal}
+use Rattle.pylock_slots.specs.declared.refusal.Refusal.TheVariants as refusal
 
 abbrev pub parsed : List ℕ → Result (Option Object) Refusal
 parsed bytes = do

@@ -6,9 +6,9 @@ use Rattle.pyver_core.specs.Set.Normal.{specifier_text}
 use Rattle.pymark_core.specs.Requirement.Reading.{requirement_of, written_set_of}
 use Rattle.pymark_core.specs.Requirement.Value.{RequirementValue}
 use Rattle.pylock_values.specs.Record.{joined, record_of}
-use Rattle.pylock_c.specs.Refusal.{refuse_as, requirement_refusal}
-use Rattle.pylock_c.specs.Text.{text_of}
-use Rattle.pylock_c.specs.declared.refusal.Refusal.{Refusal}
+use Rattle.pylock_slots.specs.Refusal.{refuse_as, requirement_refusal}
+use Rattle.pylock_slots.specs.Text.{text_of}
+use Rattle.pylock_slots.specs.declared.refusal.Refusal.{Refusal}
 
 -- the name, the extras, the normal form of the specifier set, the URL, the marker
 abbrev pub parts_of : RequirementValue → List (Option (List ℕ))

@@ -5,9 +5,9 @@ use Rattle.pyver_core.specs.Version.Normal.{normal_text}
 use Rattle.pywheel_core.specs.Sdist.Reading.{sdist_of}
 use Rattle.pywheel_core.specs.Sdist.Value.{SdistValue}
 use Rattle.pylock_values.specs.Record.{record_of}
-use Rattle.pylock_c.specs.Refusal.{refuse_as, sdist_refusal}
-use Rattle.pylock_c.specs.Text.{text_of}
-use Rattle.pylock_c.specs.declared.refusal.Refusal.{Refusal}
+use Rattle.pylock_slots.specs.Refusal.{refuse_as, sdist_refusal}
+use Rattle.pylock_slots.specs.Text.{text_of}
+use Rattle.pylock_slots.specs.declared.refusal.Refusal.{Refusal}
 
 -- the normal form of the name, and that of the version
 abbrev pub parts_of : SdistValue → List (Option (List ℕ))

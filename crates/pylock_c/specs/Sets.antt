@@ -8,12 +8,12 @@ use Rattle.pyver_core.specs.Set.Normal.{set_text}
 use Rattle.pyver_core.specs.Version.Parts.{Parts}
 use Rattle.pyver_core.specs.declared.set.specifier.Specifier.{Specifier}
 use Rattle.pylock_values.specs.Spans.{spans_of as set_spans}
-use Rattle.pylock_c.specs.Refusal.{refuse_as, set_refusal, version_refusal}
-use Rattle.pylock_c.specs.Text.{text_of}
-use Rattle.pylock_c.specs.declared.object.Object.{Object}
-use Rattle.pylock_c.specs.declared.object.Object.TheVariants as kind
-use Rattle.pylock_c.specs.declared.refusal.Refusal.{Refusal}
-use Rattle.pylock_c.specs.declared.refusal.Refusal.TheVariants as refusal
+use Rattle.pylock_slots.specs.Refusal.{refuse_as, set_refusal, version_refusal}
+use Rattle.pylock_slots.specs.Text.{text_of}
+use Rattle.pylock_slots.specs.declared.object.Object.{Object}
+use Rattle.pylock_slots.specs.declared.object.Object.TheVariants as kind
+use Rattle.pylock_slots.specs.declared.refusal.Refusal.{Refusal}
+use Rattle.pylock_slots.specs.declared.refusal.Refusal.TheVariants as refusal
 
 abbrev pub version_of : List ℕ → Result Parts Refusal
 version_of bytes = do

@@ -8,13 +8,13 @@ use Rattle.pylock_core.specs.Session.State.{State}
 use Rattle.pylock_program.specs.Refusal.{unopened_printed}
 use Rattle.pylock_program.specs.declared.opening.Unopened.{Unopened}
 use Rattle.pylock_program.specs.declared.opening.Unopened.TheVariants as unopened
-use Rattle.pylock_c.specs.Opening.{Leaves, open_refusal}
-use Rattle.pylock_c.specs.Refusal.{number}
-use Rattle.pylock_c.specs.Sessions.{session_at}
-use Rattle.pylock_c.specs.declared.object.Object.{Object}
-use Rattle.pylock_c.specs.declared.object.Object.TheVariants as kind
-use Rattle.pylock_c.specs.declared.refusal.Refusal.{Refusal}
-use Rattle.pylock_c.specs.declared.refusal.Refusal.TheVariants as refusal
+use Rattle.pylock_slots.specs.Opening.{Leaves, open_refusal}
+use Rattle.pylock_slots.specs.Refusal.{number}
+use Rattle.pylock_slots.specs.Sessions.{session_at}
+use Rattle.pylock_slots.specs.declared.object.Object.{Object}
+use Rattle.pylock_slots.specs.declared.object.Object.TheVariants as kind
+use Rattle.pylock_slots.specs.declared.refusal.Refusal.{Refusal}
+use Rattle.pylock_slots.specs.declared.refusal.Refusal.TheVariants as refusal
 
 -- the session at the start: the head and every entry are judged
 abbrev pub strictly_started : Result State Unopened → Result Object Unopened

@@ -2,9 +2,9 @@
 use Rattle.std.specs.Prelude.{ℕ, List, ok_or, Result}
 use Rattle.pytext.specs.Results.{◌>>=◌}
 use Rattle.pylock_values.specs.Tags.{tags_record}
-use Rattle.pylock_c.specs.Text.{text_of}
-use Rattle.pylock_c.specs.declared.refusal.Refusal.{Refusal}
-use Rattle.pylock_c.specs.declared.refusal.Refusal.TheVariants.{TagParts}
+use Rattle.pylock_slots.specs.Text.{text_of}
+use Rattle.pylock_slots.specs.declared.refusal.Refusal.{Refusal}
+use Rattle.pylock_slots.specs.declared.refusal.Refusal.TheVariants.{TagParts}
 
 abbrev pub tags_of : List ℕ → Result (List ℕ) Refusal
 tags_of bytes = do

@@ -13,10 +13,10 @@ use Rattle.pylock_values.specs.Kind.{kind_of}
 use Rattle.pylock_values.specs.Parts.{form_of, numbers_of, words}
 use Rattle.pylock_values.specs.declared.versions.VersionKind.{VersionKind}
 use Rattle.pylock_values.specs.declared.versions.VersionNumbers.{VersionNumbers}
-use Rattle.pylock_c.specs.Refusal.{refuse_as, version_refusal}
+use Rattle.pylock_slots.specs.Refusal.{refuse_as, version_refusal}
 use Rattle.pylock_c.specs.Sets.{version_of}
-use Rattle.pylock_c.specs.Text.{text_of}
-use Rattle.pylock_c.specs.declared.refusal.Refusal.{Refusal}
+use Rattle.pylock_slots.specs.Text.{text_of}
+use Rattle.pylock_slots.specs.declared.refusal.Refusal.{Refusal}
 
 -- bytes whose order is that of versions (the law `keys_stand_in_order` of `pyver_core`)
 abbrev pub key_of : List ℕ → Result (List ℕ) Refusal

@@ -8,9 +8,9 @@ use Rattle.pywheel_core.specs.Wheel.Reading.{wheel_of}
 use Rattle.pywheel_core.specs.Wheel.Value.{WheelValue}
 use Rattle.pylock_values.specs.Record.{record_of}
 use Rattle.pylock_values.specs.WheelParts.{wheel_parts_record}
-use Rattle.pylock_c.specs.Refusal.{refuse_as, wheel_refusal}
-use Rattle.pylock_c.specs.Text.{text_of}
-use Rattle.pylock_c.specs.declared.refusal.Refusal.{Refusal}
+use Rattle.pylock_slots.specs.Refusal.{refuse_as, wheel_refusal}
+use Rattle.pylock_slots.specs.Text.{text_of}
+use Rattle.pylock_slots.specs.declared.refusal.Refusal.{Refusal}
 
 -- the name as written, the normal form of the version, the build tag as written, the tags
 abbrev pub parts_of : WheelValue → List (Option (List ℕ))

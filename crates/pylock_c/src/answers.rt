@@ -8,30 +8,23 @@ ghost use Rattle.pylock_command.specs.declared.task.FilesOutput.TheVariants.{Sho
 ghost use Rattle.pylock_command.specs.declared.task.View.TheVariants.{Explain, Plan};
 ghost use Rattle.pylock_run.specs.declared.report.opening.OpenError.TheVariants as unopened;
 ghost use Rattle.pylock_program.specs.Reply.{audit_report, files_report};
-ghost use Rattle.pylock_c.specs.Answer.{Tells};
-ghost use Rattle.pylock_c.specs.Answers.{environment_read, form_of, head_of, reported};
-ghost use Rattle.pylock_c.specs.Opening.{Opens, Says};
-ghost use Rattle.pylock_c.specs.Slot.{object};
-ghost use Rattle.pylock_c.specs.declared.refusal.Refusal.TheVariants.{Memory};
+ghost use Rattle.pylock_slots.specs.Answer.{Tells};
+ghost use Rattle.pylock_c.specs.Answers.{environment_read, reported};
+ghost use Rattle.pylock_slots.specs.Head.{head_of};
+ghost use Rattle.pylock_slots.specs.Opening.{Opens, Says};
+ghost use Rattle.pylock_slots.specs.Sessions.{form_of};
+ghost use Rattle.pylock_slots.specs.Slot.{object};
+ghost use Rattle.pylock_slots.specs.declared.refusal.Refusal.TheVariants.{Memory};
 
-use crate::answer::keep_with;
-use crate::object::{Bytes, Object};
-use crate::opening::{leave_object, open_into};
-use crate::refusal::Refusal;
-use crate::slot::Slot;
 use pylock_command::Form;
-use pylock_core::{EnvError, Lock, LockError, read_environment};
-use pylock_documents::{document, head_document};
+use pylock_core::{EnvError, read_environment};
 use pylock_messages::{environment_message, lock_message};
 use pylock_program::{View, push_audit, push_files, push_open_error, push_view};
 use pylock_run::{OpenError, open};
+use pylock_slots::{
+    Bytes, Object, Refusal, Slot, form_of, keep_with, leave_object, lock_head, open_into,
+};
 use std::alloc::{AllocError, Global};
-
-pub(crate) fn form_of(json: bool) -> Form
-    ensures { result ≡ form_of json }
-{
-    if json { Form::Json } else { Form::Lines }
-}
 
 /// What `plan` or `explain` prints of a lock in an environment, and its status.
 fn report(
@@ -148,20 +141,6 @@ pub extern "C" fn pylock_audit(
     keep_with(alloc, told, out, status)
 }
 
-#[tactic(auto, unfolding(crate::specs::Answers::head_of))]
-fn head(alloc: Global, bytes: &[u8]) -> Result<Object, OpenError>
-    ensures { Gives unopened.Memory (λ kept. kept) result (head_of bytes.now) }
-{
-    match Lock::read(alloc, bytes) {
-        Ok(lock) => {
-            let head = document(alloc, head_document(alloc, lock.head())?)?;
-            Ok(Object::Text(Bytes::new(head.into_bytes())))
-        }
-        Err(LockError::Memory) => Err(OpenError::Memory),
-        Err(error) => Err(OpenError::Lock(error)),
-    }
-}
-
 /// The head of a lock, as a JSON document, or the line of its refusal.
 #[unsafe(no_mangle)]
 pub extern "C" fn pylock_lock_head(
@@ -173,7 +152,7 @@ pub extern "C" fn pylock_lock_head(
     ensures { Opens (head_of lock.now) (object head.old) (object head.new) (object words.old)
         (object words.new) result }
 {
-    open_into(alloc, self::head(alloc, lock), head, words)
+    open_into(alloc, lock_head(alloc, lock), head, words)
 }
 
 #[tactic(auto, unfolding(crate::specs::Answers::environment_read))]

@@ -16,9 +16,9 @@ ghost use Rattle.pylock_c.specs.Edits.{set_change, tags_command};
 ghost use Rattle.pylock_c.specs.Edits.{target_argument, target_command, unset_change};
 ghost use Rattle.pywheel_core.specs.Target.Reading.{target_of};
 
-use crate::text::text;
 use pylock_core::{Edit, Entry, NameChange, Policy};
 use pylock_run::{Command, LineRefusal, policy_argument, variable_argument};
+use pylock_slots::{NamesEdit, text};
 use pymark_core::Change;
 use pytext::Text;
 use pyver_core::{NormalName, is_name};
@@ -70,15 +70,6 @@ fn names_argument(alloc: Global, bytes: &[u8]) -> Result<Vec<NormalName>, LineRe
 {
     let texts = listed_texts(alloc, text(bytes)?)?;
     Ok(normal_names(alloc, &texts)?)
-}
-
-/// What an edit does with several names.
-#[derive(Clone, Copy)]
-pub(crate) enum NamesEdit {
-    /// It changes the extras or the groups that are asked for.
-    Change(NameChange),
-    /// It gives each the policy.
-    Policy(Policy),
 }
 
 /// The change for each of the names of a list.

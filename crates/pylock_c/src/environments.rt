@@ -6,21 +6,23 @@ ghost use Rattle.pymark_core.specs.declared.change.Change.{Change as ChangeValue
 ghost use Rattle.pymark_core.specs.declared.change.Change.TheVariants as change;
 ghost use Rattle.pylock_run.specs.declared.line.refusal.LineRefusal.{LineRefusal as RefusalValue};
 ghost use Rattle.pylock_run.specs.declared.line.refusal.LineRefusal.TheVariants as line;
-ghost use Rattle.pylock_c.specs.Answer.{Edits, Tells};
+ghost use Rattle.pylock_values.specs.Environments.{IsRecordOf};
+ghost use Rattle.pylock_slots.specs.Answer.{Edits, Tells};
+ghost use Rattle.pylock_c.specs.Answered.{IsAnswered};
 ghost use Rattle.pylock_c.specs.Edits.{named_change, set_change, unset_change};
-ghost use Rattle.pylock_c.specs.Environments.{changed_in, new_environment};
-ghost use Rattle.pylock_c.specs.Slot.{object};
-ghost use Rattle.pylock_c.specs.declared.refusal.Refusal.TheVariants.{Memory};
+ghost use Rattle.pylock_c.specs.Environments.{Records, changed_in, new_environment};
+ghost use Rattle.pylock_c.specs.Markers.{environment_in};
+ghost use Rattle.pylock_slots.specs.Slot.{kept_object, object};
+ghost use Rattle.pylock_slots.specs.declared.refusal.Refusal.TheVariants.{Memory};
 
-use crate::answer::{edit_code, keep_object};
 use crate::edits::{
     add_extra_change, add_group_change, drop_extra_change, drop_group_change, set_change,
     unset_change,
 };
-use crate::object::Object;
-use crate::refusal::Refusal;
-use crate::slot::Slot;
+use crate::markers::environment_in;
 use pylock_run::LineRefusal;
+use pylock_slots::{Object, Refusal, Slot, edit_code, keep_object, keep_text};
+use pylock_values::environment_record;
 use pymark_core::{Change, Environment};
 use std::alloc::Global;
 
@@ -123,6 +125,30 @@ pub extern "C" fn pylock_environment_drop_group(alloc: Global, slot: &mut Slot, 
         (object slot.old) (object slot.new) result }
 {
     change_slot(alloc, slot, drop_group_change(alloc, name))
+}
+
+fn record_in(alloc: Global, kept: &Option<Box<Object>>) -> Result<Vec<u8>, Refusal>
+    ensures { IsAnswered (environment_in (kept_object kept.now))
+        (λ environment made. IsRecordOf environment made.items) result }
+{
+    Ok(environment_record(alloc, environment_in(kept)?)?)
+}
+
+/// The record of an environment.
+#[unsafe(no_mangle)]
+pub extern "C" fn pylock_environment_record(
+    alloc: Global,
+    environment: &mut Slot,
+    slot: &mut Slot,
+) -> i32
+    ensures kept { object environment.new ≡ object environment.old }
+    ensures told { Records (environment_in (object environment.old)) (object slot.old)
+        (object slot.new) result }
+{
+    let kept = environment.take(alloc);
+    let code = keep_text(alloc, record_in(alloc, &kept), slot);
+    environment.put(alloc, kept);
+    code
 }
 
 /// Empties the slot.

@@ -1,13 +1,11 @@
 //! What was expected of texts that are refused, and where.
 
 ghost use Rattle.pylock_c.specs.Expected.{Records};
-ghost use Rattle.pylock_c.specs.Slot.{object};
+ghost use Rattle.pylock_slots.specs.Slot.{object};
 
-use crate::refusal::Refusal;
-use crate::slot::Slot;
-use crate::text::{keep_text, text};
 use pylock_pointed::pointed_lines;
 use pylock_run::{push_field, push_next_field};
+use pylock_slots::{Refusal, Slot, keep_text, text};
 use pymark_expected::{Fault, marker_fault, requirement_fault, set_fault, specifier_fault};
 use std::alloc::{AllocError, Global};
 

@@ -16,28 +16,22 @@
 
 ghost use Rattle.std.specs.Prelude.{◌≡◌};
 
-mod answer;
+mod algebra;
 mod answers;
 mod edits;
 mod environments;
 mod expected;
-mod kept;
-mod kept_session;
-mod loose;
 mod markers;
-mod object;
-mod opening;
-mod refusal;
+mod program;
 mod requirements;
+mod runs;
 mod sdists;
 mod sessions;
 mod sets;
-mod slot;
 mod strict;
 mod tags;
 mod targets;
 mod text;
-mod threads;
 mod versions;
 mod wheels;
 

@@ -2,18 +2,14 @@
 
 ghost use Rattle.std.specs.Prelude.{◌≡◌, None, Some};
 ghost use Rattle.pytext.specs.Agreement.{Gives};
-ghost use Rattle.pylock_c.specs.Answer.{Tells, Writes};
+ghost use Rattle.pylock_slots.specs.Answer.{Tells, Writes};
 ghost use Rattle.pylock_c.specs.Markers.{environment_in, marker_in, marker_text_in, parsed};
 ghost use Rattle.pylock_c.specs.Markers.{tree_in, value_in, value_with_extra_in};
-ghost use Rattle.pylock_c.specs.Slot.{kept_object, object};
-ghost use Rattle.pylock_c.specs.Text.{kept_text};
-ghost use Rattle.pylock_c.specs.declared.refusal.Refusal.TheVariants.{Memory};
+ghost use Rattle.pylock_slots.specs.Slot.{kept_object, object};
+ghost use Rattle.pylock_slots.specs.Text.{kept_text};
+ghost use Rattle.pylock_slots.specs.declared.refusal.Refusal.TheVariants.{Memory};
 
-use crate::answer::{keep_object, tell_value, write};
-use crate::object::Object;
-use crate::refusal::Refusal;
-use crate::slot::Slot;
-use crate::text::{keep_text, text};
+use pylock_slots::{Object, Refusal, Slot, keep_object, keep_text, tell_value, text, write};
 use pylock_values::marker_record;
 use pymark_core::{Environment, Marker};
 use std::alloc::Global;
@@ -32,7 +28,7 @@ pub extern "C" fn pylock_marker_parse(alloc: Global, marker: &mut Slot, text: &[
     keep_object(alloc, parsed(alloc, text), marker)
 }
 
-fn marker_in(kept: &Option<Box<Object>>) -> Result<&Marker, Refusal>
+pub(crate) fn marker_in(kept: &Option<Box<Object>>) -> Result<&Marker, Refusal>
     ensures { Gives Memory (λ marker. marker.now) result (marker_in (kept_object kept.now)) }
 {
     match kept.as_deref() {
@@ -84,7 +80,7 @@ pub extern "C" fn pylock_marker_tree(alloc: Global, marker: &mut Slot, slot: &mu
     code
 }
 
-fn environment_in(kept: &Option<Box<Object>>) -> Result<&Environment, Refusal>
+pub(crate) fn environment_in(kept: &Option<Box<Object>>) -> Result<&Environment, Refusal>
     ensures { Gives Memory (λ environment. environment.now) result
         (environment_in (kept_object kept.now)) }
 {

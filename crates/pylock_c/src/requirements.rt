@@ -4,18 +4,15 @@ ghost use Rattle.std.specs.Prelude.{◌≡◌, ◌++◌, ◌∷◌, OnOk, codes,
 ghost use Rattle.pytext.specs.Agreement.{Gives};
 ghost use Rattle.pyver_core.specs.Set.Normal.{specifier_text};
 ghost use Rattle.pylock_run.specs.Text.Field.{field};
-ghost use Rattle.pylock_c.specs.Answer.{Tells, Writes};
+ghost use Rattle.pylock_slots.specs.Answer.{Tells, Writes};
 ghost use Rattle.pylock_values.specs.Record.{joined};
 ghost use Rattle.pylock_c.specs.Requirements.{requirement_record, requirement_set};
-ghost use Rattle.pylock_c.specs.Slot.{object};
-ghost use Rattle.pylock_c.specs.Text.{kept_text};
-ghost use Rattle.pylock_c.specs.declared.refusal.Refusal.TheVariants.{Memory};
+ghost use Rattle.pylock_slots.specs.Slot.{object};
+ghost use Rattle.pylock_slots.specs.Text.{kept_text};
+ghost use Rattle.pylock_slots.specs.declared.refusal.Refusal.TheVariants.{Memory};
 
-use crate::answer::write;
-use crate::refusal::Refusal;
-use crate::slot::Slot;
-use crate::text::{keep_text, text};
 use pylock_run::{push_field, push_next_field};
+use pylock_slots::{Refusal, Slot, keep_text, text, write};
 use pymark_core::Requirement;
 use pyver_core::SpecifierSet;
 use std::alloc::{AllocError, Global};

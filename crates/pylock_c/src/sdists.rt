@@ -1,16 +1,14 @@
 //! The record of what the name of a source distribution says (PEP 625).
 
 ghost use Rattle.pytext.specs.Agreement.{Gives};
-ghost use Rattle.pylock_c.specs.Answer.{Tells};
+ghost use Rattle.pylock_slots.specs.Answer.{Tells};
 ghost use Rattle.pylock_c.specs.Sdists.{sdist_record};
-ghost use Rattle.pylock_c.specs.Slot.{object};
-ghost use Rattle.pylock_c.specs.Text.{kept_text};
-ghost use Rattle.pylock_c.specs.declared.refusal.Refusal.TheVariants.{Memory};
+ghost use Rattle.pylock_slots.specs.Slot.{object};
+ghost use Rattle.pylock_slots.specs.Text.{kept_text};
+ghost use Rattle.pylock_slots.specs.declared.refusal.Refusal.TheVariants.{Memory};
 
-use crate::refusal::Refusal;
-use crate::slot::Slot;
-use crate::text::{keep_text, text};
 use pylock_run::{push_field, push_next_field};
+use pylock_slots::{Refusal, Slot, keep_text, text};
 use pywheel_core::SdistName;
 use std::alloc::Global;
 

@@ -1,55 +1,32 @@
 //! Sessions: a lock in an environment (PEP 751), edited and answered again.
 
-ghost use Rattle.std.specs.Prelude.{◌≡◌, ℕ, List, None, Ok, Option, Result, Some};
-ghost use Rattle.pytext.specs.Agreement.{Gives};
+ghost use Rattle.std.specs.Prelude.{◌≡◌, None, Ok};
 ghost use Rattle.pymark_core.specs.declared.change.Change.TheVariants as change;
 ghost use Rattle.pylock_core.specs.declared.edit.Edit.TheVariants as edit;
 ghost use Rattle.pylock_core.specs.declared.edit.NameChange.TheVariants as name_change;
 ghost use Rattle.pylock_run.specs.Line.{command_of};
 ghost use Rattle.pylock_run.specs.Report.{open_state};
-ghost use Rattle.pylock_run.specs.declared.line.commands.Command.{Command as CommandValue};
 ghost use Rattle.pylock_run.specs.declared.line.commands.Command.TheVariants as command;
-ghost use Rattle.pylock_run.specs.declared.line.refusal.LineRefusal.{LineRefusal as RefusalValue};
-ghost use Rattle.pylock_run.specs.declared.line.refusal.LineRefusal.TheVariants as line;
-ghost use Rattle.pylock_run.specs.declared.report.opening.OpenError.TheVariants as unopened;
-ghost use Rattle.pylock_c.specs.Answer.{Tells};
+ghost use Rattle.pylock_slots.specs.Answer.{Tells};
 ghost use Rattle.pylock_c.specs.Edits.{change_command, entry_command, named_change};
 ghost use Rattle.pylock_c.specs.Edits.{names_change, names_policy, policy_command, set_change};
 ghost use Rattle.pylock_c.specs.Edits.{tags_command};
 ghost use Rattle.pylock_c.specs.Edits.{target_command, unset_change};
-ghost use Rattle.pylock_c.specs.Opening.{Opens};
-ghost use Rattle.pylock_c.specs.Sessions.{Counts, edited_in, obeyed_in, started};
-ghost use Rattle.pylock_c.specs.Slot.{object};
-ghost use Rattle.pylock_c.specs.declared.edits.NamesEdit.{NamesEdit as NamesValue};
-ghost use Rattle.pylock_c.specs.declared.object.Object.{Object as Kind};
-ghost use Rattle.pylock_c.specs.declared.refusal.Refusal.{Refusal as Refused};
+ghost use Rattle.pylock_slots.specs.Opening.{Opens};
+ghost use Rattle.pylock_slots.specs.Sessions.{edited_in, obeyed_in, started};
+ghost use Rattle.pylock_slots.specs.Slot.{object};
 
 mod standing;
 
-use crate::answer::OK;
 use crate::edits::{
-    NamesEdit, add_command, add_extra_change, add_group_change, change_command, drop_extra_change,
+    add_command, add_extra_change, add_group_change, change_command, drop_extra_change,
     drop_group_change, names_change, names_policy, policy_command, put_command, set_change,
     tags_command, target_command, unset_change,
 };
-use crate::kept_session::KeptSession;
-use crate::object::Object;
-use crate::opening::open_into;
-use crate::refusal::Refusal;
-use crate::slot::Slot;
 use pylock_core::{Edit, NameChange};
-use pylock_run::{Command, LineRefusal, OpenError, open, read_line};
-use pyver_core::NormalName;
+use pylock_run::{Command, read_line};
+use pylock_slots::{Slot, edit_names_slot, obey_slot, open_into, started};
 use std::alloc::Global;
-
-/// The session on a lock and an environment.
-fn started(alloc: Global, lock: &[u8], environment: &[u8]) -> Result<Object, OpenError>
-    ensures { Gives unopened.Memory (λ kept. kept) result
-        (started (open_state lock.now environment.now)) }
-{
-    let session = open(alloc, lock, environment)?;
-    Ok(Object::Session(KeptSession::new(alloc, session)?))
-}
 
 /// Starts a session on a lock and an environment, or leaves the line of a refusal in the slot of
 /// the words.
@@ -65,94 +42,6 @@ pub extern "C" fn pylock_session_start(
         (object session.new) (object words.old) (object words.new) result }
 {
     open_into(alloc, started(alloc, lock, environment), session, words)
-}
-
-/// Obeys the command in the session that is kept. Where none is, the command isn't looked at.
-fn obey_in(object: &mut Object, command: Result<Command, LineRefusal>) -> Result<u64, Refusal>
-    ensures { (definition : Result CommandValue RefusalValue)
-        → Gives line.Memory (λ c. c) command definition
-        → Counts (obeyed_in definition (Some object.old)) (Some object.old) (Some object.new)
-        result }
-{
-    match object {
-        Object::Session(session) => Ok(session.obey_command(command?)?),
-        _ => Err(Refusal::Empty),
-    }
-}
-
-/// Leaves how many judgements an edit made, and answers the code.
-#[tactic(auto, using(crate::proofs::AnswerLemmas::told_with))]
-fn tell_judged(outcome: Result<u64, Refusal>, judged: &mut u64) -> i32
-    ensures { (definition : Result (Option Kind × ℕ) Refused) (old new : Option Kind)
-        → Counts definition old new outcome
-        → Tells definition (old, judged.old) (new, judged.new) result }
-{
-    match outcome {
-        Ok(judgements) => {
-            *judged = judgements;
-            OK
-        }
-        Err(refusal) => refusal.number(),
-    }
-}
-
-/// Obeys the command in the session of a slot, and answers the code.
-fn obey_slot(
-    alloc: Global,
-    slot: &mut Slot,
-    command: Result<Command, LineRefusal>,
-    judged: &mut u64,
-) -> i32
-    ensures { (definition : Result CommandValue RefusalValue)
-        → Gives line.Memory (λ c. c) command definition
-        → Tells (obeyed_in definition (object slot.old)) (object slot.old, judged.old)
-        (object slot.new, judged.new) result }
-{
-    let Some(mut object) = slot.take(alloc) else {
-        return Refusal::Empty.number();
-    };
-    let outcome = obey_in(&mut object, command);
-    slot.put(alloc, Some(object));
-    tell_judged(outcome, judged)
-}
-
-/// Edits the names in the session that is kept. Where none is, the names aren't looked at.
-fn edit_names_in(
-    object: &mut Object,
-    read: Result<(NamesEdit, Vec<NormalName>), LineRefusal>,
-) -> Result<u64, Refusal>
-    ensures { (definition : Result (NamesValue × List (List ℕ)) RefusalValue)
-        → Gives line.Memory (λ read. (read.0, read.1.items)) read definition
-        → Counts (edited_in definition (Some object.old)) (Some object.old) (Some object.new)
-        result }
-{
-    match object {
-        Object::Session(session) => {
-            let (edit, names) = read?;
-            Ok(session.edit_names(edit, names)?)
-        }
-        _ => Err(Refusal::Empty),
-    }
-}
-
-/// Edits the names in the session of a slot, as one edit, and answers the code.
-fn edit_names_slot(
-    alloc: Global,
-    slot: &mut Slot,
-    read: Result<(NamesEdit, Vec<NormalName>), LineRefusal>,
-    judged: &mut u64,
-) -> i32
-    ensures { (definition : Result (NamesValue × List (List ℕ)) RefusalValue)
-        → Gives line.Memory (λ read. (read.0, read.1.items)) read definition
-        → Tells (edited_in definition (object slot.old)) (object slot.old, judged.old)
-        (object slot.new, judged.new) result }
-{
-    let Some(mut object) = slot.take(alloc) else {
-        return Refusal::Empty.number();
-    };
-    let outcome = edit_names_in(&mut object, read);
-    slot.put(alloc, Some(object));
-    tell_judged(outcome, judged)
 }
 
 /// Gives a variable a text.

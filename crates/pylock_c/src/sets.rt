@@ -2,17 +2,13 @@
 
 ghost use Rattle.std.specs.Prelude.{◌≡◌, ℕ, IfNone, IfSome, None, Some, pos};
 ghost use Rattle.pytext.specs.Agreement.{Gives};
-ghost use Rattle.pylock_c.specs.Answer.{Tells, Writes};
+ghost use Rattle.pylock_slots.specs.Answer.{Tells, Writes};
 ghost use Rattle.pylock_c.specs.Sets.{admits_in, admits_of, is_name_of, name_of, parsed, set_in};
 ghost use Rattle.pylock_c.specs.Sets.{set_of, set_text_in, spans_of, version_of};
-ghost use Rattle.pylock_c.specs.Slot.{kept_object, object};
-ghost use Rattle.pylock_c.specs.declared.refusal.Refusal.TheVariants.{Memory};
+ghost use Rattle.pylock_slots.specs.Slot.{kept_object, object};
+ghost use Rattle.pylock_slots.specs.declared.refusal.Refusal.TheVariants.{Memory};
 
-use crate::answer::{OK, keep_object, tell_value, write, write_made};
-use crate::object::Object;
-use crate::refusal::Refusal;
-use crate::slot::Slot;
-use crate::text::text;
+use pylock_slots::{OK, Object, Refusal, Slot, keep_object, tell_value, text, write, write_made};
 use pylock_values::set_spans;
 use pyver_core::{SpecifierSet, Version, is_name, normal_name, write_normal_name};
 use std::alloc::Global;
@@ -95,7 +91,7 @@ pub extern "C" fn pylock_is_name(text: &[u8], is_name: &mut bool) -> i32
 }
 
 /// The normal form of the text as a name.
-#[tactic(auto, using(crate::proofs::AnswerLemmas::writes_later))]
+#[tactic(auto, using(pylock_slots::proofs::AnswerLemmas::writes_later))]
 #[unsafe(no_mangle)]
 pub extern "C" fn pylock_name(alloc: Global, text: &[u8], out: &mut [u8], needed: &mut usize) -> i32
     ensures { Writes (name_of text.now) out.old out.new needed.old needed.new result }
@@ -123,7 +119,7 @@ pub extern "C" fn pylock_set_parse(alloc: Global, set: &mut Slot, text: &[u8]) -
     keep_object(alloc, parsed(alloc, text), set)
 }
 
-fn set_in(kept: &Option<Box<Object>>) -> Result<&SpecifierSet, Refusal>
+pub(crate) fn set_in(kept: &Option<Box<Object>>) -> Result<&SpecifierSet, Refusal>
     ensures { Gives Memory (λ set. set.now) result (set_in (kept_object kept.now)) }
 {
     match kept.as_deref() {

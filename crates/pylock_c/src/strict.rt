@@ -8,22 +8,19 @@ ghost use Rattle.pylock_program.specs.Opening.{strict_state};
 ghost use Rattle.pylock_program.specs.declared.opening.Unopened.{Unopened as NotOpened};
 ghost use Rattle.pylock_program.specs.declared.opening.Unopened.TheVariants as unopened;
 ghost use Rattle.pylock_run.specs.declared.report.opening.OpenError.TheVariants as refusal;
-ghost use Rattle.pylock_c.specs.Answers.{form_of};
-ghost use Rattle.pylock_c.specs.Slot.{object};
+ghost use Rattle.pylock_slots.specs.Sessions.{form_of};
+ghost use Rattle.pylock_slots.specs.Slot.{object};
 ghost use Rattle.pylock_c.specs.Strict.{OpensStrictly, strictly_started, unopened_refusal};
-ghost use Rattle.pylock_c.specs.declared.object.Object.{Object as Kind};
-ghost use Rattle.pylock_c.specs.declared.object.Object.TheVariants as kind;
+ghost use Rattle.pylock_slots.specs.declared.object.Object.{Object as Kind};
+ghost use Rattle.pylock_slots.specs.declared.object.Object.TheVariants as kind;
 
-use crate::answers::form_of;
-use crate::kept_session::KeptSession;
-use crate::object::{Bytes, Object};
-use crate::opening::{leave_object, open_refusal};
-use crate::refusal::Refusal;
-use crate::slot::Slot;
 use pylock_command::Form;
 use pylock_core::EnvironmentInput;
 use pylock_program::{Unopened, open_strictly, push_unopened};
 use pylock_run::OpenError;
+use pylock_slots::{
+    Bytes, KeptSession, Object, Refusal, Slot, form_of, leave_object, open_refusal,
+};
 use std::alloc::{AllocError, Global};
 
 /// The session on a lock that is taken strictly, and on an environment.

@@ -1,15 +1,13 @@
 //! The record of the tags that a text stands for (PEP 425).
 
 ghost use Rattle.pytext.specs.Agreement.{Gives};
-ghost use Rattle.pylock_c.specs.Answer.{Tells};
-ghost use Rattle.pylock_c.specs.Slot.{object};
+ghost use Rattle.pylock_slots.specs.Answer.{Tells};
+ghost use Rattle.pylock_slots.specs.Slot.{object};
 ghost use Rattle.pylock_c.specs.Tags.{tags_of};
-ghost use Rattle.pylock_c.specs.Text.{kept_text};
-ghost use Rattle.pylock_c.specs.declared.refusal.Refusal.TheVariants.{Memory};
+ghost use Rattle.pylock_slots.specs.Text.{kept_text};
+ghost use Rattle.pylock_slots.specs.declared.refusal.Refusal.TheVariants.{Memory};
 
-use crate::refusal::Refusal;
-use crate::slot::Slot;
-use crate::text::{keep_text, text};
+use pylock_slots::{Refusal, Slot, keep_text, text};
 use pylock_values::tags_record;
 use std::alloc::Global;
 

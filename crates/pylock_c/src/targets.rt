@@ -1,16 +1,14 @@
 //! The environment of a target, as a text (PEP 425, PEP 508).
 
 ghost use Rattle.pytext.specs.Agreement.{Gives};
-ghost use Rattle.pylock_c.specs.Answer.{Tells};
-ghost use Rattle.pylock_c.specs.Slot.{object};
+ghost use Rattle.pylock_slots.specs.Answer.{Tells};
+ghost use Rattle.pylock_slots.specs.Slot.{object};
 ghost use Rattle.pylock_c.specs.Targets.{environment_of_target};
-ghost use Rattle.pylock_c.specs.Text.{kept_text};
-ghost use Rattle.pylock_c.specs.declared.refusal.Refusal.TheVariants.{Memory};
+ghost use Rattle.pylock_slots.specs.Text.{kept_text};
+ghost use Rattle.pylock_slots.specs.declared.refusal.Refusal.TheVariants.{Memory};
 
-use crate::refusal::Refusal;
-use crate::slot::Slot;
-use crate::text::{keep_text, text};
 use pylock_documents::environment_text;
+use pylock_slots::{Refusal, Slot, keep_text, text};
 use pywheel_core::Target;
 use std::alloc::Global;
 

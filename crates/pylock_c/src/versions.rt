@@ -9,17 +9,15 @@ ghost use Rattle.pyver_core.specs.Version.Normal.{release_text, segment_text};
 ghost use Rattle.pyver_core.specs.Version.Parts.{release_alone};
 ghost use Rattle.pylock_run.specs.Text.Field.{field, fields_text};
 ghost use Rattle.pylock_values.specs.Record.{joined, record_of};
-ghost use Rattle.pylock_c.specs.Answer.{Writes, WritesBoth, WritesWith};
+ghost use Rattle.pylock_slots.specs.Answer.{Writes, WritesBoth, WritesWith};
 ghost use Rattle.pylock_c.specs.Versions.{key_of, normal_of, parts_of, read_of, split_of};
 ghost use Rattle.pylock_c.specs.Reading.{values_of};
 ghost use Rattle.pylock_c.specs.Versions.{split_text, told_of, version_record, whole_of};
-ghost use Rattle.pylock_c.specs.declared.refusal.Refusal.TheVariants.{Memory};
+ghost use Rattle.pylock_slots.specs.declared.refusal.Refusal.TheVariants.{Memory};
 
-use crate::answer::{put_both, write_made, write_with};
-use crate::refusal::Refusal;
 use crate::sets::version;
-use crate::text::text;
 use pylock_run::{push_field, push_next_field};
+use pylock_slots::{Refusal, put_both, text, write_made, write_with};
 use pylock_values::{
     VersionKind, VersionNumbers, base_of, kind_of, normal_form, plain_kind, words_of,
 };

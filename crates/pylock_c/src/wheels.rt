@@ -1,16 +1,14 @@
 //! The records of what the name of a wheel says (PEP 427).
 
 ghost use Rattle.pytext.specs.Agreement.{Gives};
-ghost use Rattle.pylock_c.specs.Answer.{Tells};
-ghost use Rattle.pylock_c.specs.Slot.{object};
-ghost use Rattle.pylock_c.specs.Text.{kept_text};
+ghost use Rattle.pylock_slots.specs.Answer.{Tells};
+ghost use Rattle.pylock_slots.specs.Slot.{object};
+ghost use Rattle.pylock_slots.specs.Text.{kept_text};
 ghost use Rattle.pylock_c.specs.Wheels.{wheel_parts_of, wheel_record};
-ghost use Rattle.pylock_c.specs.declared.refusal.Refusal.TheVariants.{Memory};
+ghost use Rattle.pylock_slots.specs.declared.refusal.Refusal.TheVariants.{Memory};
 
-use crate::refusal::Refusal;
-use crate::slot::Slot;
-use crate::text::{keep_text, text};
 use pylock_run::{push_field, push_next_field};
+use pylock_slots::{Refusal, Slot, keep_text, text};
 use pylock_values::wheel_parts_record;
 use pywheel_core::{WheelName, tags_text};
 use std::alloc::Global;

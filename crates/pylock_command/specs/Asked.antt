@@ -1,8 +1,9 @@
 -- What the subcommands with several arguments are asked, in clap's terms, and when their words are
 -- refused.
 use Rattle.std.specs.Prelude.{◌≡◌, List, [], ◌∷◌, Option, Some, None, codes, false, true}
-use Rattle.std.specs.Prelude.{if◌then◌else◌}
-use Rattle.clap.specs.Words.{Row}
+use Rattle.std.specs.Prelude.{if◌then◌else◌, option_map}
+use Rattle.std.specs.Borrow.{Bor}
+use Rattle.clap.specs.Words.{Row, Text, first_of}
 use Rattle.pylock_command.specs.PlanOptions.{AreOptions, has_plan_options}
 use Rattle.pylock_command.specs.Form.{IsOutput, form_of, output_misuse}
 use Rattle.pylock_command.specs.Machine.{IsMachine, machine_misuse, names_none, place_misuse}
@@ -12,6 +13,7 @@ use Rattle.pylock_command.specs.declared.misuse.Misuse.{Misuse}
 use Rattle.pylock_command.specs.declared.misuse.Misuse.TheVariants.{NoPlans}
 use Rattle.pylock_command.specs.declared.task.Comparison.{Comparison}
 use Rattle.pylock_command.specs.declared.task.Installation.{Installation}
+use Rattle.pylock_command.specs.declared.task.MatrixQuestion.{MatrixQuestion}
 use Rattle.pylock_command.specs.declared.task.Opening.{Opening}
 use Rattle.pylock_command.specs.declared.task.Question.{Question}
 use Rattle.pylock_command.specs.declared.task.View.{View}
@@ -39,6 +41,21 @@ question_misuse view rows = first (opening_misuse rows
 abbrev pub select_misuse : List Row → Option Misuse
 select_misuse rows = first (opening_misuse rows
     ∷ input_misuse (codes "LOCK") rows ∷ input_misuse (codes "ENV") rows ∷ [])
+
+-- ---- `matrix`
+
+-- an argument that may be left out has this text, or none
+abbrev pub MayHave : List Row → Text → Option (Bor Text) → Type 0
+MayHave rows id text = option_map (λ text. text.now) text ≡ first_of id rows
+
+-- the words name a lock, and may name targets
+abbrev pub IsMatrix : List Row → MatrixQuestion → Type 0
+IsMatrix rows asked = HasText rows (codes "LOCK") asked.lock.now
+    × MayHave rows (codes "python") asked.pythons
+    × MayHave rows (codes "platform") asked.platforms
+    × AreOptions rows asked.options.items
+    × (asked.strict ≡ has_flag (codes "strict") rows)
+    × (asked.no_build ≡ has_flag (codes "no-build") rows) × (asked.form ≡ form_of rows)
 
 -- ---- `diff`
 

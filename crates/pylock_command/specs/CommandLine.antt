@@ -9,7 +9,7 @@ use Rattle.clap.specs.declared.error.Error.{Error}
 use Rattle.clap.specs.declared.error.kind.ErrorKind.TheVariants.{OutOfMemory}
 use Rattle.pylock_command.specs.Argument.{flag_rule, needed_rule, optional_rule, repeated_rule}
 use Rattle.pylock_command.specs.Argument.{single_rule, text_rule}
-use Rattle.pylock_command.specs.Asked.{IsComparison, IsOpening, IsQuestion}
+use Rattle.pylock_command.specs.Asked.{IsComparison, IsMatrix, IsOpening, IsQuestion}
 use Rattle.pylock_command.specs.Asked.{comparison_misuse, question_misuse, select_misuse}
 use Rattle.pylock_command.specs.Form.{IsFilesOutput, files_output_misuse, form_of}
 use Rattle.pylock_command.specs.Machine.{IsMachine, IsTarget, machine_misuse, target_misuse}
@@ -25,7 +25,7 @@ use Rattle.pylock_command.specs.declared.task.Output.TheVariants.{View}
 use Rattle.pylock_command.specs.declared.task.Question.{Question}
 use Rattle.pylock_command.specs.declared.task.Task.{Task}
 use Rattle.pylock_command.specs.declared.task.Task.TheVariants.{Audit, Bare, Diff, Environment}
-use Rattle.pylock_command.specs.declared.task.Task.TheVariants.{Files, Marker, Select, Show}
+use Rattle.pylock_command.specs.declared.task.Task.TheVariants.{Files, Marker, Matrix, Select, Show}
 use Rattle.pylock_command.specs.declared.task.Task.TheVariants as task
 use Rattle.pylock_command.specs.declared.task.TextQuestion.{TextQuestion}
 use Rattle.pylock_command.specs.declared.task.TextQuestion.TheVariants.{Match, Name, Requirement}
@@ -94,6 +94,9 @@ subcommands =
     ∷ row (codes "explain") (locked (machine_rules ++ option_rules ++ strict ∷ json ∷ []))
     (question_misuse Explain)
     ∷ row (codes "select") (locked (machine_rules ++ strict ∷ json ∷ [])) select_misuse
+    ∷ row (codes "matrix")
+    (locked (target_rules ++ option_rules ++ flag_rule (codes "no-build") ∷ strict ∷ json ∷ []))
+    (lack (codes "LOCK"))
     ∷ row (codes "files") (locked (format ∷ json ∷ [])) files_misuse
     ∷ row (codes "audit") (locked (json ∷ [])) (lack (codes "LOCK"))
     ∷ row (codes "diff") (text_rule (codes "OLD") ∷ text_rule (codes "NEW") ∷ in_rules
@@ -151,6 +154,7 @@ IsTask found Bare = found ≡ None
 IsTask found (Show question) = IsShown found question question.output
 IsTask found (Select opening form) =
     IsIn found (codes "select") (λ rows. IsOpening rows opening × (form ≡ form_of rows))
+IsTask found (Matrix asked) = IsIn found (codes "matrix") (λ rows. IsMatrix rows asked)
 IsTask found (Files lock output) = IsIn found (codes "files")
     (λ rows. HasText rows (codes "LOCK") lock.now × IsFilesOutput rows output)
 IsTask found (Audit lock form) = IsIn found (codes "audit")

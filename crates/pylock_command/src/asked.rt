@@ -1,17 +1,17 @@
 //! What the subcommands with several arguments are asked, by what clap found.
-ghost use Rattle.std.specs.Prelude.{IfOk};
+ghost use Rattle.std.specs.Prelude.{IfOk, codes};
 ghost use Rattle.clap.specs.Words.{found_of, rows_of};
-ghost use Rattle.pylock_command.specs.Asked.{IsComparison, IsInstallation, IsOpening};
+ghost use Rattle.pylock_command.specs.Asked.{IsComparison, IsInstallation, IsMatrix, IsOpening};
 ghost use Rattle.pylock_command.specs.Asked.{IsQuestion, comparison_misuse, installation_misuse};
 ghost use Rattle.pylock_command.specs.Asked.{opening_misuse, question_misuse, select_misuse};
-ghost use Rattle.pylock_command.specs.Misuse.{Refuses, RefusesUnless};
+ghost use Rattle.pylock_command.specs.Misuse.{Refuses, RefusesUnless, lack};
 
 use crate::form::{form_of, output_of};
 use crate::machine::{machine_of, place_of};
 use crate::misuse::{Misuse, NoTask};
 use crate::options::options_of;
-use crate::task::{Comparison, Installation, Opening, Question, View};
-use crate::texts::{has_flag, judge_input, judge_inputs, text_of};
+use crate::task::{Comparison, Installation, MatrixQuestion, Opening, Question, View};
+use crate::texts::{has_flag, judge_input, judge_inputs, text_at, text_of};
 use clap::ArgMatches;
 use std::alloc::Global;
 
@@ -55,6 +55,27 @@ fn opening_of<'a>(found: &ArgMatches<'a>) -> Result<Opening<'a>, Misuse>
         lock: text_of(found, "LOCK")?,
         machine: machine_of(found)?,
         strict: has_flag(found, "strict"),
+    })
+}
+
+/// What `matrix` is asked.
+pub(crate) fn matrix_of<'a>(
+    alloc: Global,
+    found: &ArgMatches<'a>,
+) -> Result<MatrixQuestion<'a>, NoTask>
+    ensures matrix { IfOk result (IsMatrix (rows_of (found_of found.now))) }
+    ensures refused { RefusesUnless (lack (codes "LOCK") (rows_of (found_of found.now))) result }
+{
+    let lock = text_of(found, "LOCK")?;
+    let options = options_of(alloc, found)?;
+    Ok(MatrixQuestion {
+        lock,
+        pythons: text_at(found, "python"),
+        platforms: text_at(found, "platform"),
+        options,
+        strict: has_flag(found, "strict"),
+        no_build: has_flag(found, "no-build"),
+        form: form_of(found),
     })
 }
 

@@ -8,7 +8,7 @@ ghost use Rattle.pylock_command.specs.Commands.{Adds, IsCommand, IsLocal};
 ghost use Rattle.pylock_command.specs.Misuse.{RefusesUnless, kind_of_misuse};
 ghost use Rattle.pylock_command.specs.Subcommand.{with_usage};
 
-use crate::asked::{comparison_of, question_of, select_of};
+use crate::asked::{comparison_of, matrix_of, question_of, select_of};
 use crate::form::{files_output_of, form_of};
 use crate::help::ABOUT;
 use crate::machine::{machine_of, target_of};
@@ -58,7 +58,7 @@ impl From<clap::Error> for CommandError {
 ///
 /// No source can hold the sum of itself. So 64 characters stand in its place, and where a build is
 /// kept `tools/make/built stamp` writes the sum over them. No contract speaks of this text.
-const VERSION: &str = "1.9.0
+const VERSION: &str = "1.11.0
 sources (not told: rt built it; ./pylock and tools/release tell the sum), \
 proved in logic dac8208d650f15bf";
 
@@ -134,6 +134,7 @@ fn task_in<'a>(alloc: Global, name: &str, found: &ArgMatches<'a>) -> Result<Task
         "plan" => Task::Show(question_of(alloc, View::Plan, found)?),
         "explain" => Task::Show(question_of(alloc, View::Explain, found)?),
         "select" => Task::Select(select_of(found)?, form),
+        "matrix" => Task::Matrix(matrix_of(alloc, found)?),
         "files" => Task::Files(text_of(found, "LOCK")?, files_output_of(found)?),
         "audit" => Task::Audit(text_of(found, "LOCK")?, form),
         "diff" => Task::Diff(comparison_of(alloc, found)?),

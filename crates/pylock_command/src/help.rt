@@ -177,6 +177,35 @@ standard error says why it ended early:
                            268,435,456 bytes
   pylock: memory           memory ran out";
 
+pub(crate) const MATRIX: &str = "\
+Example, with spaces for the TABs:
+  $ pylock matrix pylock.toml --python 3.11,3.12 --platform linux,windows
+  3.11  linux  plan  11  1,2
+  ..
+
+Prints a line for each Python and each platform: what plan answers for that
+target. It is PYTHON PLATFORM plan K BUILT, or PYTHON PLATFORM fault ID CODE,
+with TAB between two fields. K is how many packages are installed, and BUILT
+has the numbers of the entries that are built from source, which are all but
+wheels, with a comma between two; it is - where there are none. The help of
+explain says what CODE means.
+
+PYTHONS and PLATFORMS are words of --python and --platform as plan takes them,
+with a comma between two. Without --python the Pythons are those of 3.10 to 3.14
+that the lock's requires-python admits, each by its first release that it
+admits. Without --platform the platforms are manylinux_2_28_x86_64,
+manylinux_2_28_aarch64, musllinux_1_2_x86_64, musllinux_1_2_aarch64,
+macosx_14_0_x86_64, macosx_14_0_arm64 and win_amd64. The options are those of
+plan, and hold for each target.
+
+With --json the answer is a document, whose member matrix has an object for each
+target.
+
+Status: 0, a plan for each target; 1, a fault for one, or a refused option, or
+with --no-build something is built; 2, the lock, a word of the targets or the
+command line is refused; 3, a file can't be read, the output failed or memory
+ran out.";
+
 pub(crate) const FILES: &str = "\
 Example:
   $ pylock files pylock.toml

@@ -32,5 +32,6 @@ pub use form::{FileFormat, Form, PlanFormat};
 pub use machine::{Machine, TargetWords};
 pub use option::PlanOption;
 pub use task::{
-    Comparison, FilesOutput, Installation, Opening, Output, Question, Task, TextQuestion, View,
+    Comparison, FilesOutput, Installation, MatrixQuestion, Opening, Output, Question, Task,
+    TextQuestion, View,
 };

@@ -67,6 +67,20 @@ pub(crate) const TARGET: [Argument; 2] = [
     },
 ];
 
+/// The targets of `matrix`.
+pub(crate) const TARGETS: [Argument; 2] = [
+    Argument {
+        name: "python",
+        kind: Kind::Single("PYTHONS"),
+        help: "The Pythons, joined by commas: 3.11,3.12",
+    },
+    Argument {
+        name: "platform",
+        kind: Kind::Single("PLATFORMS"),
+        help: "The platforms, joined by commas: linux,macos",
+    },
+];
+
 /// A target that has to be there.
 pub(crate) const NEEDED_TARGET: [Argument; 2] = [
     Argument {

@@ -8,7 +8,7 @@ ghost use Rattle.pylock_command.specs.Commands.{IsCommand, IsLocal};
 use crate::argument::{Argument, Kind, with_groups};
 use crate::form::{FORMAT, JSON, JSON_LINES};
 use crate::help;
-use crate::machine::{ENV, IN, NEEDED_TARGET, SELECT_ENV, TARGET};
+use crate::machine::{ENV, IN, NEEDED_TARGET, SELECT_ENV, TARGET, TARGETS};
 use crate::options::CHOICES;
 use clap::Command;
 use std::alloc::{AllocError, Global};
@@ -101,8 +101,14 @@ const STRICT: Argument = Argument {
     help: "Refuse a lock with certain findings of audit",
 };
 
+const NO_BUILD: Argument = Argument {
+    name: "no-build",
+    kind: Kind::Flag,
+    help: "End with 1 where something is built from source",
+};
+
 /// The subcommands, in the order of the help.
-pub(crate) const SUBCOMMANDS: [Usage; 14] = [
+pub(crate) const SUBCOMMANDS: [Usage; 15] = [
     Usage {
         name: "plan",
         about: "Print what a lock installs in an environment",
@@ -120,6 +126,12 @@ pub(crate) const SUBCOMMANDS: [Usage; 14] = [
         about: "Print what a lock installs, and print it again after each edit",
         arguments: &[&[SELECT_LOCK, SELECT_ENV], &TARGET, &[STRICT, JSON_LINES]],
         reply: help::SELECT,
+    },
+    Usage {
+        name: "matrix",
+        about: "Print what a lock installs on each of several machines",
+        arguments: &[&[LOCK], &TARGETS, &CHOICES, &[NO_BUILD, STRICT, JSON]],
+        reply: help::MATRIX,
     },
     Usage {
         name: "files",

@@ -75,6 +75,25 @@ pub struct Comparison<'a> {
     pub form: Form,
 }
 
+/// What `matrix` is asked.
+#[derive(Debug, Drop)]
+pub struct MatrixQuestion<'a> {
+    /// The path of the lock, of which `-` is standard input.
+    pub lock: &'a str,
+    /// The words of the Pythons, with `,` between two; none where the lock's are meant.
+    pub pythons: Option<&'a str>,
+    /// The words of the platforms, with `,` between two; none where the common ones are meant.
+    pub platforms: Option<&'a str>,
+    /// The options, which hold for each target.
+    pub options: Vec<PlanOption<'a>>,
+    /// Whether the lock is taken only where nothing is found in it that a strict reading refuses.
+    pub strict: bool,
+    /// Whether the status tells that something is built from source.
+    pub no_build: bool,
+    /// The form of the answer.
+    pub form: Form,
+}
+
 /// What is asked about a text by itself.
 #[derive(Clone, Copy, Debug)]
 pub enum TextQuestion<'a> {
@@ -102,6 +121,8 @@ pub enum Task<'a> {
     /// `select`, with what the session is opened on, of which no path is `-`, and the form of each
     /// answer.
     Select(Opening<'a>, Form),
+    /// `matrix`, with what it is asked.
+    Matrix(MatrixQuestion<'a>),
     /// `files`, with the path of the lock, and how its sources are printed.
     Files(&'a str, FilesOutput),
     /// `audit`, with the path of the lock, and the form of the answer.

@@ -1,1 +1,2 @@
+pub mod PartsLemmas
 pub mod TextLemmas

@@ -11,10 +11,12 @@
 #![tactic(auto)]
 
 mod files;
+pub mod laws;
 mod parts;
 mod printed;
 mod run;
 
 pub use files::{MemoryFile, MemoryFiles};
 pub use parts::cut_parts;
-pub use run::{Ran, perform_in_memory, run_bytes, run_words};
+pub use printed::Printed;
+pub use run::{Ran, perform_in_memory, run_bytes, run_words, texts_of};

@@ -7,14 +7,14 @@ use std::alloc::Global;
 
 /// What was written. A write fails only where memory is refused.
 #[derive(Drop)]
-pub(crate) struct Printed {
+pub struct Printed {
     bytes: Vec<u8>,
     failures: u64,
 }
 
 impl Printed {
     /// Nothing yet.
-    pub(crate) fn new(alloc: Global) -> Printed
+    pub fn new(alloc: Global) -> Printed
         ensures bytes { result.bytes.items ≡ [] }
         ensures failures { result.failures ≡ 0 }
     {
@@ -25,7 +25,7 @@ impl Printed {
     }
 
     /// The bytes that were written.
-    pub(crate) fn into_bytes(self) -> Vec<u8>
+    pub fn into_bytes(self) -> Vec<u8>
         ensures { result ≡ self.bytes }
     {
         let Printed { bytes, failures: _ } = self;

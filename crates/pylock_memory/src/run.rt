@@ -69,8 +69,8 @@ pub fn run_bytes(alloc: Global, words: &[&[u8]], files: &[&[u8]], input: &[u8]) 
     }
 }
 
-/// The texts that the words are.
-fn texts_of<'a>(alloc: Global, words: &[&'a [u8]]) -> Result<Vec<&'a str>, Failure>
+/// The texts that the words are. It takes memory for a slice of each.
+pub fn texts_of<'a>(alloc: Global, words: &[&'a [u8]]) -> Result<Vec<&'a str>, Failure>
     ensures texts { IfOk result (λ texts. map (λ t. t.now) texts.items
         ≡ map (λ w. w.now) words.now) }
     ensures all { OnOk result (IsTrue (list_all is_utf8 (map (λ w. w.now) words.now))) }
@@ -130,6 +130,7 @@ pub fn perform_in_memory<'a>(
         outputs: Outputs {
             writer: Printed::new(alloc),
             diagnostics: Printed::new(alloc),
+            ends_process: false,
         },
     };
     let end = perform(alloc, task, &mut host);
@@ -141,6 +142,7 @@ pub fn perform_in_memory<'a>(
     let Outputs {
         writer,
         diagnostics,
+        ends_process: _,
     } = outputs;
     Ran {
         end: end.map_err(in_memory),

@@ -3,3 +3,5 @@ pub mod LineLemmas
 pub mod OpeningLemmas
 pub mod ReplyLemmas
 pub mod SafeLemmas
+pub mod MatrixLemmas
+pub mod PlanLemmas

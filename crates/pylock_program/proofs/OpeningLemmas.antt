@@ -26,7 +26,7 @@ use Rattle.pylock_run.specs.declared.report.fault.RunFault.TheVariants as fault
 use Rattle.pylock_run.specs.declared.report.opening.OpenError.{OpenError}
 use Rattle.pylock_run.specs.declared.report.opening.OpenError.TheVariants as refusal
 use Rattle.pytext.specs.Results.{◌>>=◌}
-use Rattle.pylock_program.specs.Opening.{chosen_state, open_unless, opened_by, strict_state}
+use Rattle.pylock_program.specs.Opening.{chosen_state, open_unless, strict_state}
 use Rattle.pylock_program.specs.Program.{IsRunOn}
 use Rattle.pylock_program.specs.Refusal.{PrintsTelling, cause_report, cause_status, is_memory, out_of_memory, refusal_report, report_or_refusal, silence}
 use Rattle.pylock_program.specs.Show.{output_form, output_report, question_report, run_shown, with_strict}

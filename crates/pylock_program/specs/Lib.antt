@@ -6,6 +6,7 @@ pub mod Reply
 pub mod PlanOptions
 pub mod Show
 pub mod Diff
+pub mod Matrix
 pub mod Exports
 pub mod Paths
 pub mod Program

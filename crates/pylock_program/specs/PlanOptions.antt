@@ -17,6 +17,7 @@ use Rattle.pylock_core.specs.declared.edit.Edit.TheVariants as edit
 use Rattle.pylock_core.specs.declared.edit.NameChange.TheVariants.{AddExtra, AddGroup, DropGroup}
 use Rattle.pylock_core.specs.declared.edit.Policy.{Policy as FilePolicy}
 use Rattle.pylock_core.specs.declared.edit.Policy.TheVariants.{Wheel, Source}
+use Rattle.pylock_matrix.specs.declared.setting.Setting.{Setting}
 use Rattle.pylock_program.specs.declared.options.NameEdit.{NameEdit}
 use Rattle.pylock_program.specs.declared.options.NameEdit.TheVariants.{Change, Policy}
 
@@ -39,11 +40,18 @@ policies state policy text =
     else edit_of_name (Policy policy) text
 
 -- `VARIABLE=VALUE`, cut at the first `=`, which has to be there
-abbrev pub set_variable : List ℕ → Option (List Edit)
-set_variable text =
+abbrev pub setting_of : List ℕ → Option Setting
+setting_of text =
     option_and_then (λ cut. option_map
-    (λ variable. edit.Environment (change.Set variable cut.1) ∷ []) (variable_of cut.0))
+    (λ variable. record { variable = variable; text = cut.1 }) (variable_of cut.0))
     (cut_at 61 text)
+
+-- the edit that sets it
+abbrev pub set_edits : Setting → List Edit
+set_edits setting = edit.Environment (change.Set setting.variable setting.text) ∷ []
+
+abbrev pub set_variable : List ℕ → Option (List Edit)
+set_variable text = option_map set_edits (setting_of text)
 
 -- the edits of an option, in order; none where its text is none
 abbrev pub edits_of : State → PlanOption → Option (List Edit)

@@ -9,6 +9,7 @@ use Rattle.pylock_command.specs.declared.task.Installation.{Installation}
 use Rattle.pylock_command.specs.declared.task.Task.{Task}
 use Rattle.pylock_command.specs.declared.task.Task.TheVariants as task
 use Rattle.pylock_program.specs.Diff.{locks_report, plans_report}
+use Rattle.pylock_program.specs.Matrix.{matrix_report}
 use Rattle.pylock_program.specs.Opening.{opened_by}
 use Rattle.pylock_program.specs.Paths.{IsMachineRead, IsReadAs}
 use Rattle.pylock_program.specs.Refusal.{PrintsTelling, refusal_report}
@@ -151,6 +152,9 @@ Performs gives (task.Show question) =
 Performs gives (task.Select opening form) =
     Opens gives opening.lock.now (λ lock. OpensMachine gives opening.machine
     (Runs opening.strict form lock))
+Performs gives (task.Matrix asked) =
+    Opens gives asked.lock.now
+    (λ bytes. RepliesTelling (λ diagnostic. matrix_report asked diagnostic bytes))
 Performs gives (task.Files lock output) =
     Opens gives lock.now
     (λ bytes. RepliesTelling (λ diagnostic. files_report output diagnostic bytes))

@@ -20,4 +20,7 @@ pub struct Outputs<W, N> {
     pub writer: W,
     /// Standard error. What can't be written there is left out.
     pub diagnostics: N,
+    /// Whether the process ends with the task. Then the memory of what was read is left to the
+    /// system, which takes all of it at once; else it is given back.
+    pub ends_process: bool,
 }

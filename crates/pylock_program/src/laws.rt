@@ -1,10 +1,16 @@
 //! Laws of the definitions alone: each function's contract is a law, and its body is empty.
 
-ghost use Rattle.std.specs.Prelude.{◌≡◌, ◌≢◌, ℕ, List, [], Option, true, false};
+ghost use Rattle.std.specs.Prelude.{◌≡◌, ◌≢◌, ℕ, List, [], Ok, Option, true, false};
+ghost use Rattle.std.specs.List.{All};
 ghost use Rattle.pylock_audit.specs.Strict.{strict_findings_of};
+ghost use Rattle.pylock_command.specs.declared.task.MatrixQuestion.{MatrixQuestion};
 ghost use Rattle.pylock_command.specs.declared.task.Question.{Question as QuestionValue};
+ghost use Rattle.pylock_core.specs.Session.State.{State};
+ghost use Rattle.pylock_matrix.specs.Cell.{CellValue};
+ghost use Rattle.pylock_matrix.specs.Moving.{placed};
 ghost use Rattle.pylock_readers.specs.Environment.{EnvironmentRead};
 ghost use Rattle.pylock_messages.specs.Diagnostic.{DiagnosticValue};
+ghost use Rattle.pylock_program.specs.Matrix.{asked_settings, opened_matrix, plan_state};
 ghost use Rattle.pylock_program.specs.Show.{question_report, with_strict};
 
 /// A strict plan is the plan: where nothing is found in a lock that a strict reading refuses,
@@ -22,4 +28,15 @@ pub fn strict_plan()
         → (question_report (with_strict true question) diagnostic lock environment).status ≢ 2
         → question_report (with_strict true question) diagnostic lock environment
         ≡ question_report (with_strict false question) diagnostic lock environment }
+{}
+
+/// Each row is what `plan` answers: moved to a target, the session of `matrix` is in the state that
+/// `plan` opens with the words of that target and the same options. So no option is refused on one
+/// target and accepted on another.
+#[tactic(auto, using(crate::proofs::PlanLemmas::rows_of_plans))]
+pub fn rows_are_of_plans()
+    ensures { (asked : MatrixQuestion) (bytes : List ℕ) (state : State) (cells : List CellValue)
+        → opened_matrix asked bytes ≡ Ok (state, cells)
+        → All (λ cell. plan_state asked bytes cell
+        ≡ Ok (placed cell.target (asked_settings asked.options.items) state)) cells }
 {}

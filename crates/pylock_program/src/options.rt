@@ -10,13 +10,14 @@ ghost use Rattle.pyver_core.specs.Name.{normal_name};
 ghost use Rattle.pylock_core.specs.Session.State.{after_edits, in_turn};
 ghost use Rattle.pylock_program.specs.PlanOptions.{after_option, after_options};
 ghost use Rattle.pylock_program.specs.PlanOptions.{edit_of_name, edits_of, name_edit, policies};
-ghost use Rattle.pylock_program.specs.PlanOptions.{set_variable};
+ghost use Rattle.pylock_program.specs.PlanOptions.{set_variable, setting_of};
 ghost use Rattle.pylock_program.specs.declared.options.NameEdit.TheVariants as name_edits;
 ghost use Rattle.pylock_program.specs.Inner.Chosen.{state_if, state_or_refused};
 
 use pylock_command::PlanOption;
 use pylock_core::laws::names_are_edited_in_turn;
 use pylock_core::{Edit, EditError, NameChange, Policy, Session};
+use pylock_matrix::Setting;
 use pymark_core::{Change, Var};
 use pytext::Text;
 use pyver_core::{NormalName, is_name};
@@ -213,9 +214,22 @@ fn entry_names(alloc: Global, session: &Session) -> Result<Vec<NormalName>, Allo
     Ok(names)
 }
 
-/// The edit of `--set`, whose text is cut at its first `=`.
+/// The edit of `--set`.
 fn set_variable(alloc: Global, text: &str) -> Result<Option<Edit>, AllocError>
     ensures { IfOk result (λ edit. option_map in_turn edit ≡ set_variable text.now) }
+{
+    match setting_of(alloc, text)? {
+        Some(setting) => {
+            let change = Change::Set(setting.variable, setting.text);
+            Ok(Some(Edit::Environment(change)))
+        }
+        None => Ok(None),
+    }
+}
+
+/// What `--set` sets by a text, which is cut at its first `=`.
+pub(crate) fn setting_of(alloc: Global, text: &str) -> Result<Option<Setting>, AllocError>
+    ensures { IfOk result (λ setting. setting ≡ setting_of text.now) }
 {
     let Some((name, value)) = split_at_equals(text) else {
         return Ok(None);
@@ -223,8 +237,10 @@ fn set_variable(alloc: Global, text: &str) -> Result<Option<Edit>, AllocError>
     let Some(variable) = Var::of(name) else {
         return Ok(None);
     };
-    let value = Text::copy_of(alloc, value)?;
-    Ok(Some(Edit::Environment(Change::Set(variable, value))))
+    Ok(Some(Setting {
+        variable,
+        text: Text::copy_of(alloc, value)?,
+    }))
 }
 
 /// What stands before and after the first `=`.

@@ -10,6 +10,7 @@ use crate::diagnostics::tell_bytes;
 use crate::diff::compare;
 use crate::failure::{Failure, program_end};
 use crate::host::{Host, Outputs};
+use crate::matrix::show_matrix;
 use crate::reply::{answer_text, audit_lock, judge_marker, list_files, print_target};
 use crate::select::run_select;
 use crate::show::answer_question;
@@ -49,6 +50,7 @@ pub fn perform<F: Files, R: Source, W: Sink, N: Sink>(
         Task::Bare => greet(&mut host.outputs),
         Task::Show(question) => answer_question(alloc, &question, host),
         Task::Select(opening, form) => run_select(alloc, opening, form, host),
+        Task::Matrix(asked) => show_matrix(alloc, &asked, host),
         Task::Files(lock, output) => list_files(alloc, lock, output, host),
         Task::Audit(lock, form) => audit_lock(alloc, lock, form, host),
         Task::Diff(asked) => compare(alloc, &asked, host),

@@ -14,7 +14,7 @@ ghost use Rattle.pylock_run.specs.Report.Print.{Prints};
 ghost use Rattle.pylock_run.specs.declared.report.fault.RunFault.TheVariants as fault;
 ghost use Rattle.pylock_run.specs.declared.report.opening.OpenError.TheVariants as open_error;
 
-use crate::diagnostics::refusal::environment_refusal;
+use crate::diagnostics::refusal::{environment_refusal, findings_diagnostic};
 use crate::diagnostics::{tell, tell_bytes};
 use crate::file::{FileBytes, MachineInput};
 use crate::host::Outputs;
@@ -22,7 +22,7 @@ use crate::opening::Unopened;
 use crate::options::option_words;
 use crate::text::audit::push_findings;
 use crate::text::json::{push_option_json, push_refusal_json, push_words};
-use pylock_audit::{LockFinding, findings_document};
+use pylock_audit::{Findings, LockFinding, findings_document};
 use pylock_command::{Form, PlanOption};
 use pylock_core::{EnvError, LockError};
 use pylock_documents::push_document;
@@ -124,6 +124,15 @@ impl<'a> Refusal<'a> {
     {
         let diagnostic = lock_diagnostic(alloc, file.path, &file.bytes, &error);
         let cause = Cause::Unopened(Unopened::Refused(OpenError::Lock(error)));
+        Refusal { cause, diagnostic }
+    }
+
+    /// Findings stand in a lock that is taken strictly and stands alone.
+    pub(crate) fn of_findings(alloc: Global, found: Findings, file: &FileBytes<'_>) -> Refusal<'a>
+        ensures { result.cause ≡ cause.Unopened (unopened.Findings found) }
+    {
+        let diagnostic = findings_diagnostic(alloc, file);
+        let cause = Cause::Unopened(Unopened::Findings(found));
         Refusal { cause, diagnostic }
     }
 

@@ -48,8 +48,7 @@ const REFUSED_TEXT: u8 = 1;
 
 // ---- every source of a lock
 
-/// Answers `files` on the lock of a file. The memory of the lock is left to the system, for the
-/// program ends then.
+/// Answers `files` on the lock of a file.
 pub(crate) fn list_files<F: Files, R: Source, W: Sink, N: Sink>(
     alloc: Global,
     lock: &str,
@@ -78,7 +77,9 @@ fn write_files<W: Sink, N: Sink>(
     match Lock::read(alloc, &file.bytes) {
         Ok(lock) => {
             let end = write_entries(alloc, output, lock.entries(), outputs);
-            mem::forget(lock);
+            if outputs.ends_process {
+                mem::forget(lock);
+            }
             end
         }
         Err(LockError::Memory) => Err(RunFault::Memory),
@@ -200,7 +201,9 @@ fn write_audit<W: Sink, N: Sink>(
     match read_audited(alloc, &file.bytes) {
         Ok((read, found)) => {
             let end = write_findings(alloc, form, found.as_slice(), &mut outputs.writer);
-            mem::forget((read, found));
+            if outputs.ends_process {
+                mem::forget((read, found));
+            }
             end
         }
         Err(LockError::Memory) => Err(RunFault::Memory),

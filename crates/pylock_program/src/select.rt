@@ -9,7 +9,7 @@ ghost use Rattle.pylock_run.specs.Report.Run.{IsRunShown};
 
 use crate::failure::{Failure, program_end};
 use crate::file::{Inputs, read_bytes, read_machine};
-use crate::host::Host;
+use crate::host::{Host, Outputs};
 use crate::opening::open_inputs;
 use crate::printing::Documents;
 use crate::refusal::write_refusal;
@@ -55,37 +55,31 @@ fn run_on<F: Files, R: Source, W: Sink, N: Sink>(
         (W.value host.old.outputs.writer) (W.value host.new.outputs.writer) result }
 {
     match open_inputs(alloc, strict, inputs) {
-        Ok(session) => {
-            run_in_form(
-                alloc,
-                form,
-                session,
-                &mut host.reader,
-                &mut host.outputs.writer,
-            )
-        }
+        Ok(session) => run_in_form(alloc, form, session, &mut host.reader, &mut host.outputs),
         Err(refusal) => write_refusal(alloc, Some(form), refusal, &mut host.outputs),
     }
 }
 
 /// A run on a session, in the form.
-fn run_in_form<R: Source, W: Sink>(
+fn run_in_form<R: Source, W: Sink, N: Sink>(
     alloc: Global,
     form: Form,
     session: Session,
     reader: &mut R,
-    writer: &mut W,
+    outputs: &mut Outputs<W, N>,
 ) -> Result<u8, RunFault>
     ensures { IsRunShown (run_shown form) (Ok session.state) (R.value reader.old)
-        (R.value reader.new) (W.value writer.old) (W.value writer.new) result }
+        (R.value reader.new) (W.value outputs.old.writer) (W.value outputs.new.writer) result }
 {
+    let leaves = outputs.ends_process;
+    let writer = &mut outputs.writer;
     match form {
-        Form::Lines => run_opened(alloc, &Lines, Ok(session), true, reader, writer),
+        Form::Lines => run_opened(alloc, &Lines, Ok(session), leaves, reader, writer),
         Form::Json => run_opened(
             alloc,
             &Documents { alloc },
             Ok(session),
-            true,
+            leaves,
             reader,
             writer,
         ),

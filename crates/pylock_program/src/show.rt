@@ -57,8 +57,7 @@ pub(crate) fn answer_question<F: Files, R: Source, W: Sink, N: Sink>(
 /// where that points, which no clause pins.
 ///
 /// It takes memory for the session, for the edits of one option at a time, and for what it writes:
-/// of `explain` for what becomes of each entry, and for one reason at a time. The memory of the
-/// session is left to the system, for the program ends then.
+/// of `explain` for what becomes of each entry, and for one reason at a time.
 #[tactic(auto, using(crate::proofs::OpeningLemmas::refused))]
 fn write_answer<W: Sink, N: Sink>(
     alloc: Global,
@@ -73,7 +72,9 @@ fn write_answer<W: Sink, N: Sink>(
     match open_question(alloc, question, inputs) {
         Ok(session) => {
             let end = write_output(alloc, question, &session, outputs);
-            mem::forget(session);
+            if outputs.ends_process {
+                mem::forget(session);
+            }
             end
         }
         Err(refusal) => write_refusal(alloc, output_form(question.output), refusal, outputs),

@@ -27,11 +27,21 @@ abbrev pub input_text : Shown → State → List ℕ → List ℕ
 input_text shown state input = (report_on shown (begun state) (input_lines input)).text
 
 -- what a whole input prints
-text_of_input : (shown : Shown) (state : State) (input : List ℕ)
+pub text_of_input : (shown : Shown) (state : State) (input : List ℕ)
     → (shown.answer state ++ bytes_text shown (start state) input) ++ input_end_text shown (editing_after (start state) input) ≡ input_text shown state input
 text_of_input shown state input =
     append_assoc (shown.answer state) (bytes_text shown (start state) input) (input_end_text shown (editing_after (start state) input))
     ∙ ap (λ t. shown.answer state ++ t) (edits shown state input).prints
+
+-- and the status of what it left
+pub status_of_input : (shown : Shown) (state : State) (input : List ℕ)
+    → cond ((after_input (editing_after (start state) input)).plan && not (after_input (editing_after (start state) input)).refused) 0 1
+    ≡ (report_on shown (begun state) (input_lines input)).status
+status_of_input shown state input =
+    let done = after_input (editing_after (start state) input) in
+    let facts = edits shown state input in
+    ap (λ p. cond (p && not done.refused) 0 1) (plan_told state input ∙ ap (λ s. is_plan (answer s)) facts.state)
+    ∙ ap (λ b. cond (is_plan (answer (state_after_all state (input_lines input))) && not b) 0 1) facts.refused
 
 lines_total : (begun complete lines : ℕ) → complete ≡ begun → complete ≡ 0 + lines → begun ≡ lines
 lines_total begun complete lines same total = omega arith
@@ -144,7 +154,6 @@ session_reports shown state source source' sink mid late sink' at last end statu
     let here = before_last shown state sink mid late input first edited.writes in
     let done = after_input (editing_after (start state) input) in
     let finish : end ≡ done = complete ∙ ap (λ a. after_input a) edited.editing in
-    let facts = edits shown state input in
     let whole = Writes-trans sink late sink' _ (input_end_text shown last) here written in
     let reports : Reports shown (begun state) source source' sink sink' status = record {
       input = input;
@@ -152,9 +161,7 @@ session_reports shown state source source' sink mid late sink' at last end statu
       took = subst (Appends sink.held sink'.held)
           (ap (λ a. (shown.answer state ++ bytes_text shown (start state) input) ++ input_end_text shown a) edited.editing ∙ text_of_input shown state input)
           whole.held;
-      answers = told ∙ ap (λ a. cond (a.plan && not a.refused) 0 1) finish
-          ∙ ap (λ p. cond (p && not done.refused) 0 1) (plan_told state input ∙ ap (λ s. is_plan (answer s)) facts.state)
-          ∙ ap (λ b. cond (is_plan (answer (state_after_all state (input_lines input))) && not b) 0 1) facts.refused;
+      answers = told ∙ ap (λ a. cond (a.plan && not a.refused) 0 1) finish ∙ status_of_input shown state input;
       reads = edited.reads;
       writes = whole.counted;
       ends = inr (

@@ -3,6 +3,7 @@
 pub mod editing;
 pub mod fault;
 pub mod opening;
+pub mod pieces;
 pub mod print;
 pub mod printing;
 pub mod run;

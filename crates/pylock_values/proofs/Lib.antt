@@ -1,3 +1,4 @@
+pub mod EnvironmentLemmas
 pub mod FieldLemmas
 pub mod MarkersLemmas
 pub mod PartsLemmas

@@ -1,3 +1,4 @@
+pub mod Environments
 pub mod Kind
 pub mod MarkerPieces
 pub mod Parts

@@ -1,6 +1,7 @@
-//! What versions, sets of specifiers, markers, tags, names of wheels and plans say, as plain
-//! values: numbers, offsets and records of fields. So a caller in another language has them
-//! without a grammar of its own. The numbers of a version, from `crates/pylock_c/src/versions.rt`:
+//! What versions, sets of specifiers, markers, environments, tags, names of wheels and plans say,
+//! as plain values: numbers, offsets and records of fields. So a caller in another language has
+//! them without a grammar of its own. The numbers of a version, from
+//! `crates/pylock_c/src/versions.rt`:
 //!
 //! ```rust
 //! let version = Version::parse(alloc, text)?;
@@ -9,6 +10,7 @@
 //! ```
 #![tactic(auto)]
 
+mod environments;
 pub mod laws;
 mod markers;
 mod picks;
@@ -18,6 +20,7 @@ mod tags;
 mod versions;
 mod wheels;
 
+pub use environments::environment_record;
 pub use markers::marker_record;
 pub use picks::{push_fault, push_picks};
 pub use sets::set_spans;

@@ -78,7 +78,7 @@ fn pass_token(reading: Reading<'_>) -> Result<Option<Reading<'_>>, AllocError>
         (λ passed. option_map place_of passed ≡ next_place (place_of reading.entry)) }
     ensures shorter { IfOk result (λ passed. IfSome passed
         (λ passed. length passed.rest.now < length reading.entry.rest.now)) }
-    ensures capacity { IfOk result (λ passed. IfSome passed (λ passed. passed.depth
+    ensures depth { IfOk result (λ passed. IfSome passed (λ passed. passed.depth
         + length passed.rest.now ≤ reading.entry.depth + length reading.entry.rest.now)) }
 {
     match next_token(reading.rest) {
@@ -224,7 +224,7 @@ fn pass_text(reading: Reading<'_>) -> Result<Option<Reading<'_>>, AllocError>
     requires { reading.depth + length reading.rest.now < 2 ^ 64 }
     ensures shorter { IfOk result (λ passed. IfSome passed
         (λ passed. length passed.rest.now < length reading.entry.rest.now)) }
-    ensures capacity { IfOk result (λ passed. IfSome passed (λ passed. passed.depth
+    ensures depth { IfOk result (λ passed. IfSome passed (λ passed. passed.depth
         + length passed.rest.now ≤ reading.entry.depth + length reading.entry.rest.now)) }
 {
     match next_token(reading.rest) {

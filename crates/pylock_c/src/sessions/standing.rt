@@ -6,69 +6,21 @@ ghost use Rattle.pylock_core.specs.Session.Steps.{answer as answer_of};
 ghost use Rattle.pylock_run.specs.Report.{is_plan};
 ghost use Rattle.pylock_run.specs.Text.Field.{fields_text};
 ghost use Rattle.pylock_command.specs.declared.task.View.TheVariants.{Explain, Plan};
-ghost use Rattle.pylock_c.specs.Answer.{Tells};
-ghost use Rattle.pylock_c.specs.Answers.{form_of};
+ghost use Rattle.pylock_slots.specs.Answer.{Tells};
 ghost use Rattle.pylock_c.specs.Sessions.{answer_lines, judged_in, numbers_text, picks_in};
-ghost use Rattle.pylock_c.specs.Sessions.{session_in, shown_in};
-ghost use Rattle.pylock_c.specs.Slot.{kept_object, object};
-ghost use Rattle.pylock_c.specs.declared.refusal.Refusal.TheVariants.{Memory};
+ghost use Rattle.pylock_slots.specs.Sessions.{form_of, shown_in};
+ghost use Rattle.pylock_slots.specs.Slot.{kept_object, object};
+ghost use Rattle.pylock_slots.specs.declared.refusal.Refusal.TheVariants.{Memory};
 
-use crate::answer::{keep_object, keep_with};
-use crate::answers::form_of;
-use crate::object::{Bytes, Object};
-use crate::refusal::Refusal;
-use crate::slot::Slot;
-use pylock_command::Form;
 use pylock_core::{Answer, Session};
 use pylock_documents::fault_detail;
-use pylock_program::{View, push_view};
+use pylock_program::View;
 use pylock_run::push_decimal;
+use pylock_slots::{
+    Bytes, Object, Refusal, Slot, form_of, keep_object, keep_with, session_in, show_session,
+};
 use pylock_values::{push_fault, push_picks};
 use std::alloc::{AllocError, Global};
-
-fn session_in(kept: &Option<Box<Object>>) -> Result<&Session, Refusal>
-    ensures { Gives Memory (λ session. session.now) result (session_in (kept_object kept.now)) }
-{
-    match kept.as_deref() {
-        Some(Object::Session(session)) => Ok(session.get()),
-        _ => Err(Refusal::Empty),
-    }
-}
-
-/// What is printed of a session, and whether its answer is a plan.
-fn shown_in(
-    alloc: Global,
-    view: View,
-    form: Form,
-    kept: &Option<Box<Object>>,
-) -> Result<(Object, bool), Refusal>
-    ensures { Gives Memory (λ told. (Some told.0, told.1)) result
-        (shown_in view form (kept_object kept.now)) }
-{
-    let session = session_in(kept)?;
-    let mut text = Vec::new(alloc);
-    let is_plan = push_view(alloc, &mut text, view, form, session)?;
-    Ok((Object::Text(Bytes::new(text)), is_plan))
-}
-
-/// Leaves what is printed of a session in a slot, and whether its answer is a plan.
-fn show_session(
-    alloc: Global,
-    view: View,
-    form: Form,
-    session: &mut Slot,
-    out: &mut Slot,
-    is_plan: &mut bool,
-) -> i32
-    ensures kept { object session.new ≡ object session.old }
-    ensures told { Tells (shown_in view form (object session.old))
-        (object out.old, is_plan.old) (object out.new, is_plan.new) result }
-{
-    let kept = session.take(alloc);
-    let shown = shown_in(alloc, view, form, &kept);
-    session.put(alloc, kept);
-    keep_with(alloc, shown, out, is_plan)
-}
 
 /// The answer of a session as it stands.
 #[unsafe(no_mangle)]

@@ -44,7 +44,8 @@ fn beside_file(
     }
 }
 
-fn findings_diagnostic(
+/// What is told of findings in a lock that is taken strictly.
+pub(crate) fn findings_diagnostic(
     alloc: Global,
     lock: &FileBytes<'_>,
 ) -> Result<Option<Diagnostic>, AllocError> {

@@ -78,7 +78,7 @@ fn feed_some<P: Printing, W: Sink>(
 }
 
 /// Edits by a piece of the input, and writes what is in `out` and what the piece prints.
-fn feed_piece<P: Printing, W: Sink>(
+pub(crate) fn feed_piece<P: Printing, W: Sink>(
     printing: &P,
     editing: &mut Editing,
     piece: &[u8],
@@ -188,7 +188,7 @@ fn feed_all<P: Printing, R: Source, W: Sink>(
 }
 
 /// Writes the first answer.
-fn write_first_answer<P: Printing, W: Sink>(
+pub(crate) fn write_first_answer<P: Printing, W: Sink>(
     alloc: Global,
     printing: &P,
     session: Session,
@@ -210,7 +210,7 @@ fn write_first_answer<P: Printing, W: Sink>(
 }
 
 /// Writes what the last line prints, where it had no LF.
-fn write_last_answer<P: Printing, W: Sink>(
+pub(crate) fn write_last_answer<P: Printing, W: Sink>(
     printing: &P,
     editing: &mut Editing,
     last: &mut Vec<u8>,

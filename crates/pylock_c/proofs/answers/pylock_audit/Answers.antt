@@ -2,7 +2,7 @@
 use Rattle.std.proofs.Common.{rules, ap, None}
 use Rattle.pylock_program.specs.Reply.{audit_report}
 use Rattle.pylock_c.specs.Answers.{reported}
-use Rattle.pylock_c.proofs.AnswerLemmas.{told_as}
+use Rattle.pylock_slots.proofs.AnswerLemmas.{told_as}
 use Rattle.pylock_c.proofs.answers.pylock_audit.Goals as goal
 
 pub returns : goal.returns

@@ -3,7 +3,7 @@ use Rattle.std.proofs.Common.{rules, ap, None}
 use Rattle.pylock_command.specs.declared.task.FilesOutput.TheVariants.{Shown}
 use Rattle.pylock_program.specs.Reply.{files_report}
 use Rattle.pylock_c.specs.Answers.{reported}
-use Rattle.pylock_c.proofs.AnswerLemmas.{told_as}
+use Rattle.pylock_slots.proofs.AnswerLemmas.{told_as}
 use Rattle.pylock_c.proofs.answers.pylock_files.Goals as goal
 
 pub returns : goal.returns

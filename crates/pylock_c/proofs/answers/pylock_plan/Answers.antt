@@ -4,7 +4,7 @@ use Rattle.pylock_program.specs.Show.{opened_report}
 use Rattle.pylock_run.specs.Report.{open_state}
 use Rattle.pylock_command.specs.declared.task.View.TheVariants.{Plan}
 use Rattle.pylock_c.specs.Answers.{reported}
-use Rattle.pylock_c.proofs.AnswerLemmas.{told_as}
+use Rattle.pylock_slots.proofs.AnswerLemmas.{told_as}
 use Rattle.pylock_c.proofs.answers.pylock_plan.Goals as goal
 
 pub returns : goal.returns

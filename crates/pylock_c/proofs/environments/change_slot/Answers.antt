@@ -2,8 +2,8 @@
 use Rattle.std.proofs.Common.{◌≡◌, refl, rules}
 use Rattle.std.specs.Prelude.{None, Some}
 use Rattle.pylock_c.specs.Environments.{changed_in}
-use Rattle.pylock_c.specs.Slot.{object}
-use Rattle.pylock_c.proofs.AnswerLemmas.{at_empty, at_slot}
+use Rattle.pylock_slots.specs.Slot.{object}
+use Rattle.pylock_slots.proofs.AnswerLemmas.{at_empty, at_slot}
 use Rattle.pylock_c.proofs.environments.change_slot.Goals as goal
 
 pub returns-in_default : goal.returns-in_default

@@ -2,7 +2,7 @@ use Rattle.std.proofs.Common.{◌≡◌, rules}
 use Rattle.std.specs.Prelude.{Ok}
 use Rattle.pyver_core.specs.Name.{normal_name}
 use Rattle.pylock_c.specs.Sets.{name_of}
-use Rattle.pylock_c.proofs.AnswerLemmas.{writes_some}
+use Rattle.pylock_slots.proofs.AnswerLemmas.{writes_some}
 use Rattle.pylock_c.proofs.sets.write_name.Goals as goal
 
 pub returns-clause-written : goal.returns-clause-written

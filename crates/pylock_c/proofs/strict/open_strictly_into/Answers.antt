@@ -4,8 +4,8 @@ use Rattle.pytext.specs.Agreement.{Gives}
 use Rattle.pylock_program.specs.declared.opening.Unopened.{Unopened as NotOpened}
 use Rattle.pylock_program.specs.declared.opening.Unopened.TheVariants as unopened
 use Rattle.pylock_run.specs.declared.report.opening.OpenError.TheVariants as refusal
-use Rattle.pylock_c.specs.Slot.{object}
-use Rattle.pylock_c.specs.declared.object.Object.{Object as Kind}
+use Rattle.pylock_slots.specs.Slot.{object}
+use Rattle.pylock_slots.specs.declared.object.Object.{Object as Kind}
 use Rattle.pylock_c.proofs.OpeningLemmas.{unopened_opens}
 use Rattle.pylock_c.proofs.strict.open_strictly_into.Goals as goal
 

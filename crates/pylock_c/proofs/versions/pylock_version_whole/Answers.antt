@@ -4,8 +4,8 @@ use Rattle.pytext.specs.Agreement.{Gives}
 use Rattle.pylock_values.specs.declared.versions.VersionKind.{VersionKind}
 use Rattle.pylock_values.specs.declared.versions.VersionNumbers.{VersionNumbers}
 use Rattle.pylock_c.specs.Versions.{whole_of}
-use Rattle.pylock_c.specs.declared.refusal.Refusal.{Refusal}
-use Rattle.pylock_c.specs.declared.refusal.Refusal.TheVariants.{Memory}
+use Rattle.pylock_slots.specs.declared.refusal.Refusal.{Refusal}
+use Rattle.pylock_slots.specs.declared.refusal.Refusal.TheVariants.{Memory}
 use Rattle.pylock_c.specs.declared.versions.Reading.{Reading}
 use Rattle.pylock_c.proofs.versions.pylock_version_whole.Goals as goal
 

@@ -17,3 +17,6 @@ returns-in-Diff g c = rw c.in-Diff.is c.compare.ensures
 
 pub returns-in-Marker : goal.returns-in-Marker
 returns-in-Marker g c = rw c.in-Marker.is c.judge_marker.ensures
+
+pub returns-in-Matrix : goal.returns-in-Matrix
+returns-in-Matrix g c = rw c.in-Matrix.is c.show_matrix.ensures

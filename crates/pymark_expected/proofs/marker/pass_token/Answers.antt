@@ -13,8 +13,8 @@ returns-in-Some-clause-shorter c =
     let front : ok_or (next_token c.args.reading.rest.now) Syntax ≡ Ok (Some (token_view c.in-Ok-Some.token, c.in-Ok-Some.rest.now)) = search rules in
     front_less c.args.reading.rest.now (token_view c.in-Ok-Some.token) c.in-Ok-Some.rest.now front
 
-pub returns-in-Some-clause-capacity : goal.returns-in-Some-clause-capacity
-returns-in-Some-clause-capacity c =
+pub returns-in-Some-clause-depth : goal.returns-in-Some-clause-depth
+returns-in-Some-clause-depth c =
     let front : ok_or (next_token c.args.reading.rest.now) Syntax ≡ Ok (Some (token_view c.in-Ok-Some.token, c.in-Ok-Some.rest.now)) = search rules in
     let less = front_less c.args.reading.rest.now (token_view c.in-Ok-Some.token) c.in-Ok-Some.rest.now front in
     omega (arith, less, c.depth_after.ensures.most)

@@ -6,7 +6,7 @@ use Rattle.pymark_expected.proofs.marker.read_far.Given as goal
 abbrev pub invariant-loop-further : goal.invariant-loop-further
 invariant-loop-further l = record {
   reached : Reaches l.fn.text (place_of l.reading);
-  capacity : l.reading.depth + length l.reading.rest.now ≤ length l.fn.text;
+  depth : l.reading.depth + length l.reading.rest.now ≤ length l.fn.text;
   utf8 : IsUtf8 l.reading.rest.now;
 }
 

@@ -1,7 +1,7 @@
 -- The picks of the session that was taken out.
 use Rattle.std.proofs.Common.{rules, ap}
 use Rattle.pylock_c.specs.Sessions.{picks_in}
-use Rattle.pylock_c.proofs.AnswerLemmas.{told_as}
+use Rattle.pylock_slots.proofs.AnswerLemmas.{told_as}
 use Rattle.pylock_c.proofs.sessions.standing.pylock_session_picks.Goals as goal
 
 pub returns-clause-told : goal.returns-clause-told

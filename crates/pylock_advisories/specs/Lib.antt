@@ -1,0 +1,9 @@
+pub mod Advisory
+pub mod Evaluation
+pub mod File
+pub mod Index
+pub mod Latest
+pub mod Lent
+pub mod Members
+pub mod Reading
+pub mod Steps

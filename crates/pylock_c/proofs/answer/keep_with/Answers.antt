@@ -1,7 +1,0 @@
--- The code of an object that is refused.
-use Rattle.std.proofs.Common.{rules, refl}
-use Rattle.std.specs.Prelude.{Err}
-use Rattle.pylock_c.proofs.answer.keep_with.Goals as goal
-
-pub returns-in-Err : goal.returns-in-Err
-returns-in-Err g c = λ definition gives. (Err c.in-Err.refusal, c.in-Err.ensures definition gives, Prim.search rules, refl)

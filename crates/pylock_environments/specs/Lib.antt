@@ -1,0 +1,5 @@
+pub mod Detail
+pub mod Environments
+pub mod Findings
+pub mod Inner
+pub mod States

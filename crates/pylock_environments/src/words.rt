@@ -1,0 +1,52 @@
+//! What a person is told of a finding.
+
+ghost use Rattle.std.specs.Prelude.{◌≡◌, ◌++◌, ℕ, List, IfOk, Some, option_map, string_bytes};
+ghost use Rattle.std.specs.Fmt.{decimal};
+ghost use Rattle.pymark_core.specs.Environment.{variable_in};
+ghost use Rattle.pylock_environments.specs.Detail.{AreWordsOf, IsDetail};
+
+use crate::finding::Found;
+use crate::shell::push_environment;
+use pymark_core::{Environment, Var};
+use std::alloc::{AllocError, Global};
+
+/// The detail of a finding: the number of the other entry, and of a clash the options that set its
+/// environment (` --set os_name=posix --extra tests`); the version of the Python that the entry
+/// doesn't admit. A value stands as it is where its bytes are ASCII letters, digits and `._+-`, and
+/// else between quotes, as a POSIX shell reads it. It takes memory for the text.
+pub fn detail(alloc: Global, found: &Found) -> Result<Option<String>, AllocError>
+    ensures { IfOk result (λ text. IsDetail found.now (option_map string_bytes text)) }
+{
+    match found {
+        Found::Clash { other, environment } => { Ok(Some(clash_text(alloc, *other, environment)?)) }
+        Found::MayClash { other } => Ok(Some(number_text(alloc, *other)?)),
+        Found::NarrowerPython { environment } => python_text(alloc, environment),
+        Found::Never | Found::MayNever | Found::MayBeNarrower => Ok(None),
+    }
+}
+
+fn clash_text(alloc: Global, other: usize, environment: &Environment) -> Result<String, AllocError>
+    ensures { IfOk result (λ text. (words : List ℕ) × AreWordsOf environment.now words
+        × (string_bytes text ≡ decimal other ++ words)) }
+{
+    let mut text = number_text(alloc, other)?;
+    push_environment(&mut text, environment)?;
+    Ok(text)
+}
+
+fn number_text(alloc: Global, number: usize) -> Result<String, AllocError>
+    ensures { IfOk result (λ text. string_bytes text ≡ decimal number) }
+{
+    format!(in alloc; "{number}")
+}
+
+/// The version of the environment's Python.
+fn python_text(alloc: Global, environment: &Environment) -> Result<Option<String>, AllocError>
+    ensures { IfOk result (λ text. option_map string_bytes text
+        ≡ variable_in Var.PythonFullVersion environment.now) }
+{
+    match environment.get(Var::PythonFullVersion) {
+        Some(text) => Ok(Some(String::from_str(alloc, text)?)),
+        None => Ok(None),
+    }
+}

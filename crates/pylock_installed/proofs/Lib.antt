@@ -1,0 +1,5 @@
+mod TextLemmas
+mod DoneLemmas
+mod LeftLemmas
+mod NeverMemory
+mod OnceLemmas

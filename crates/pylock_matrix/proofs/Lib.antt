@@ -1,0 +1,5 @@
+pub mod CellLemmas
+pub mod DefaultsLemmas
+pub mod EditLemmas
+pub mod MovingLemmas
+pub mod TextLemmas

@@ -1,0 +1,12 @@
+pub mod Answer
+pub mod Asked
+pub mod Head
+pub mod Kept
+pub mod Opening
+pub mod Program
+pub mod Refusal
+pub mod Run
+pub mod Runs
+pub mod Sessions
+pub mod Slot
+pub mod Text

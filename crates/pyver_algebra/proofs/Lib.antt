@@ -1,0 +1,9 @@
+pub mod OrderLemmas
+pub mod PrefixLemmas
+pub mod SpecifierLemmas
+pub mod LimitLemmas
+pub mod FirstLemmas
+pub mod AddLemmas
+pub mod AlikeLemmas
+pub mod FirstTwoLemmas
+pub mod SpelledLemmas

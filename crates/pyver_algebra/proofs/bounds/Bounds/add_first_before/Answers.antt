@@ -1,0 +1,11 @@
+use Rattle.std.proofs.Common.{◌∙◌, ap}
+use Rattle.std.specs.Prelude.{not}
+use Rattle.std.proofs.lemmas.Result.{on_ok_weaker}
+use Rattle.pyver_algebra.specs.Steps.{IsStepOf}
+use Rattle.pyver_algebra.proofs.FirstTwoLemmas.{two_below}
+use Rattle.pyver_algebra.proofs.bounds.Bounds.add_first_before.Goals as goal
+
+pub returns-in-Some : goal.returns-in-Some
+returns-in-Some c =
+    let step : IsStepOf c.args.operand.now c.in-Some.step = rw c.in-Some.is at c.in_ok-step.ensures in
+    on_ok_weaker c.keep_past.result (λ keeps v none old is. keeps v old (two_below c.args.operand.now v c.in-Some.step step none ∙ ap not is)) c.keep_past.ensures
