@@ -40,7 +40,8 @@ function write(stream, bytes) {
 function main(pylock) {
   const words = process.argv.slice(2);
   const [files, reasons] = given(words);
-  const input = words.includes("-") || words.includes("select") ? readFileSync(0) : "";
+  const asked = (word) => word === "-" || word === "select" || (word.startsWith("--") && word.endsWith("=-"));
+  const input = words.some(asked) ? readFileSync(0) : "";
   const { status, output, diagnostics } = pylock.runBytes(words, files, input);
   let told = new TextDecoder().decode(diagnostics);
   for (const [path, why] of Object.entries(reasons)) {

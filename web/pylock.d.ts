@@ -132,8 +132,8 @@ export class Pylock {
   explain(lock: Text, environment: Environment, options?: Options): ExplainDocument;
   /** Every source that a lock names. */
   files(lock: Text): FilesDocument;
-  /** What a careful reader of a lock should know. */
-  audit(lock: Text): AuditDocument;
+  /** What a careful reader of a lock should know; if asked for, in every environment that it is for too. */
+  audit(lock: Text, options?: { environments?: boolean }): AuditDocument;
   /** What a change of a lock means; in an environment, what it means for the plan there. */
   diff(old: Text, lock: Text, environment?: Environment, options?: Options): DiffDocument;
   /** The head of a lock. */

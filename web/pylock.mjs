@@ -325,9 +325,10 @@ export class Pylock {
     return this.#document(["files", "pylock.toml", "--json"], { "pylock.toml": lock });
   }
 
-  /** What a careful reader of a lock should know. */
-  audit(lock) {
-    return this.#document(["audit", "pylock.toml", "--json"], { "pylock.toml": lock });
+  /** What a careful reader of a lock should know; if asked for, in every environment that it is for too. */
+  audit(lock, { environments = false } = {}) {
+    const words = ["audit", "pylock.toml", "--json", ...(environments ? ["--environments"] : [])];
+    return this.#document(words, { "pylock.toml": lock });
   }
 
   /** What a change of a lock means; in an environment, what it means for the plan there. */

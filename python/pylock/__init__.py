@@ -142,7 +142,7 @@ def __dir__() -> "list[str]":
     return sorted({*globals(), *__all__})
 
 
-__version__ = "1.11.0"
+__version__ = "1.12.0"
 
 # what `packaging` tells of itself, as far as this module has it (docs/PRIVATE.md)
 __title__ = "pylock"

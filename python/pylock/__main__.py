@@ -131,7 +131,7 @@ class _Program:
         if said == _NO_INPUT:
             return _INPUT
         for word in self.words:
-            path = word[len(b"--in=") :] if word.startswith(b"--in=") else word
+            path = word.partition(b"=")[2] if word.startswith(b"--") else word
             if said == _told(path, b"no such file"):
                 return path
         return None

@@ -158,6 +158,10 @@ def records(kept: _native.KeptSession) -> List[Tuple[Any, ...]]:
     return found
 
 
+# the words that ask the program for the findings of every environment too
+_AUDIT = (b"pylock", b"audit", b"-", b"--environments", b"--json")
+
+
 def _findings(text: str) -> List[Finding]:
     return [
         Finding(finding["id"], finding.get("name"), finding["finding"], finding.get("detail"))
@@ -536,7 +540,15 @@ class Lock(_OfThread):
         self._check_thread()
         return [_pick(source) for source in json.loads(_native.files(self._content, True)[0])["files"]]
 
-    def audit(self) -> List[Finding]:
-        """What a careful reader of the lock would want to be told, though it is valid."""
+    def audit(self, *, environments: bool = False) -> List[Finding]:
+        """What a careful reader of the lock would want to be told, though it is valid.
+
+        With `environments`, every environment that the lock is for is looked at too.
+        """
         self._check_thread()
-        return _findings(_native.audit(self._content, True)[0])
+        if not environments:
+            return _findings(_native.audit(self._content, True)[0])
+        status, text, told = _native.run_program(_AUDIT, (), self._content)
+        if status > 1:
+            raise MemoryError(told.decode().rstrip())
+        return _findings(text.decode())

@@ -91,6 +91,12 @@ class Locks(unittest.TestCase):
         self.assertIn(pylock.Finding(4, "d", "no-hash", "archive d.zip"), findings)
         self.assertTrue(all(finding.finding for finding in findings))
 
+    def test_audit_of_environments(self):
+        never = "{name = 'a', marker = \"os_name == 'nt' and os_name == 'posix'\", directory = {path = 'a'}}"
+        lock = pylock.Lock.read(f"lock-version = '1.0'\ncreated-by = 't'\npackages = [{never}]\n".encode())
+        self.assertEqual(lock.audit(), [])
+        self.assertEqual(lock.audit(environments=True), [pylock.Finding(1, "a", "never", None)])
+
     def test_strict(self):
         named = LOCK.replace(b'"X_y", ', b"")
         lock = pylock.Lock.read(named)

@@ -50,6 +50,14 @@ export const FINDINGS = {
     "secret-in-url": "The query of the URL has a password, a token or the like.",
     "moving-commit": "The commit isn't a full hash, so it may move.",
     "control-character": "The text has a control character.",
+    clash: "This entry and an earlier one of its name both apply in an environment of the lock.",
+    "may-clash": "This entry and an earlier one of its name may both apply in an environment of the lock.",
+    never: "The entry applies in no environment of the lock.",
+    "may-never": "The entry may apply in no environment of the lock.",
+    "narrower-python": "Its requires-python doesn't admit a Python for which its marker asks for it.",
+    "may-be-narrower": "Its requires-python may not admit a Python for which its marker asks for it.",
+    vulnerable: "An advisory affects the package at this version.",
+    "other-host": "The URL's host is none of those that are asked for.",
 };
 
 export const CHANGES = {

@@ -2,6 +2,7 @@ pub mod ClimbLemmas
 pub mod FrontLemmas
 pub mod HashLemmas
 pub mod KeyLemmas
+pub mod KindLemmas
 pub mod NameLemmas
 pub mod PrintableLemmas
 pub mod ScopeLemmas

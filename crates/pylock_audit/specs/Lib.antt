@@ -6,6 +6,7 @@ pub mod Finding
 pub mod Hash
 pub mod Inner
 pub mod Keys
+pub mod Kinds
 pub mod Readings
 pub mod Source
 pub mod Strict

@@ -34,6 +34,14 @@ finding_word kind.Credentials = codes "credentials"
 finding_word kind.SecretInUrl = codes "secret-in-url"
 finding_word kind.MovingCommit = codes "moving-commit"
 finding_word kind.ControlCharacter = codes "control-character"
+finding_word kind.Clash = codes "clash"
+finding_word kind.MayClash = codes "may-clash"
+finding_word kind.Never = codes "never"
+finding_word kind.MayNever = codes "may-never"
+finding_word kind.NarrowerPython = codes "narrower-python"
+finding_word kind.MayBeNarrower = codes "may-be-narrower"
+finding_word kind.Vulnerable = codes "vulnerable"
+finding_word kind.OtherHost = codes "other-host"
 
 -- those that a strict reading refuses: by such findings one installer may differ from another
 abbrev pub refused_words : List (List ℕ)

@@ -2,8 +2,8 @@
 
 ghost use Rattle.std.specs.Prelude.{◌≡◌, ◌++◌, ◌∷◌, [], IfOk, OnOk, option_map, string_bytes};
 ghost use Rattle.std.specs.Option.{option_copied};
-ghost use Rattle.pylock_audit.specs.Finding.{findings_at, findings_each, finding_where};
-ghost use Rattle.pylock_audit.specs.Finding.{shown_where};
+ghost use Rattle.pylock_audit.specs.Finding.{findings_at, findings_each, finding_of};
+ghost use Rattle.pylock_audit.specs.Finding.{finding_where, shown_where};
 ghost use Rattle.pylock_audit.specs.Words.{finding_word};
 
 use pylock_shared::{LabelledText, SharedText, plain_text};
@@ -70,6 +70,22 @@ pub enum FindingKind {
     MovingCommit,
     /// A text has a control character.
     ControlCharacter,
+    /// An earlier entry of its name and this one both stand in an environment of the lock.
+    Clash,
+    /// They weren't shown to exclude each other.
+    MayClash,
+    /// The entry stands in no environment of the lock.
+    Never,
+    /// It wasn't shown to stand in one.
+    MayNever,
+    /// Its `requires-python` doesn't admit a Python for which its marker asks for it.
+    NarrowerPython,
+    /// It wasn't shown that there is none.
+    MayBeNarrower,
+    /// An advisory affects the entry at its version.
+    Vulnerable,
+    /// The host of a source's URL is none of those that are asked for.
+    OtherHost,
 }
 
 impl FindingKind {
@@ -106,6 +122,14 @@ impl FindingKind {
             FindingKind::SecretInUrl => "secret-in-url",
             FindingKind::MovingCommit => "moving-commit",
             FindingKind::ControlCharacter => "control-character",
+            FindingKind::Clash => "clash",
+            FindingKind::MayClash => "may-clash",
+            FindingKind::Never => "never",
+            FindingKind::MayNever => "may-never",
+            FindingKind::NarrowerPython => "narrower-python",
+            FindingKind::MayBeNarrower => "may-be-narrower",
+            FindingKind::Vulnerable => "vulnerable",
+            FindingKind::OtherHost => "other-host",
         }
     }
 }
@@ -178,6 +202,28 @@ impl Drop for LockFinding {
 }
 
 impl LockFinding {
+    /// A finding of the entry of this number, or of the head. The texts are moved: it takes no
+    /// memory.
+    pub fn new(
+        number: usize,
+        name: Option<SharedText>,
+        kind: FindingKind,
+        detail: Option<LabelledText>,
+    ) -> LockFinding
+        ensures { result ≡ record {
+          number = number;
+          name = name;
+          finding = finding_of kind detail;
+        } }
+    {
+        let finding = Finding { kind, detail };
+        LockFinding {
+            number,
+            name,
+            finding,
+        }
+    }
+
     /// The number of the entry, from 1; of the head it is 0.
     pub fn number(&self) -> usize
         ensures { result ≡ self.now.number }

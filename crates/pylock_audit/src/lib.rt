@@ -25,6 +25,8 @@ mod finding;
 mod findings;
 mod hash;
 mod keys;
+mod kinds;
+pub mod laws;
 mod marker;
 mod scope;
 mod source;

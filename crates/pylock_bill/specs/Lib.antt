@@ -3,4 +3,4 @@ pub mod Hash
 pub mod Source
 pub mod CycloneDx
 pub mod Spdx
-pub mod Created
+pub mod Namespace

@@ -11,14 +11,14 @@
 //! ```
 #![tactic(auto)]
 
-mod created;
 mod cyclonedx;
 mod hash;
+mod namespace;
 mod purl;
 mod source;
 mod spdx;
 
-pub use created::is_created;
 pub use cyclonedx::cyclonedx_document;
+pub use namespace::namespace_of;
 pub use purl::purl_of;
 pub use spdx::spdx_document;

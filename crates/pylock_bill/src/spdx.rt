@@ -23,9 +23,9 @@ use std::alloc::{AllocError, Global};
 
 /// The bill of materials of a plan as SPDX 2.3 has it, made at this time and with this namespace: a
 /// package of each pick, in order. Both texts are taken as they are;
-/// [`is_created`](crate::is_created) tells whether the first is a time. A URL in which something
-/// may be a secret is left out, and so is a hash whose algorithm CycloneDX or SPDX has no name for.
-/// It takes memory for the object.
+/// [`namespace_of`](crate::namespace_of) makes the second. A URL in which something may be a secret
+/// is left out, and so is a hash whose algorithm CycloneDX or SPDX has no name for. It takes memory
+/// for the object.
 pub fn spdx_document(
     alloc: Global,
     session: &Session,

@@ -13,7 +13,13 @@ use Rattle.pylock_command.specs.declared.command_line.CommandError.{CommandError
 use Rattle.pylock_command.specs.declared.command_line.CommandError.TheVariants.{Refused, Memory}
 use Rattle.pylock_command.specs.Misuse.{kind_of_misuse}
 use Rattle.pylock_command.specs.declared.misuse.Misuse.{Misuse}
-use Rattle.pylock_command.specs.declared.misuse.Misuse.TheVariants.{EditsAndFile, HalfTarget, Missing, NoFileFormat, NoMachine, NoPlanFormat, NoPlans, TwoForms, TwoInputs, TwoMachines}
+use Rattle.pylock_command.specs.declared.misuse.Misuse.TheVariants.{BadTime, EditsAndFile}
+use Rattle.pylock_command.specs.declared.misuse.Misuse.TheVariants.{FormatOfRows, HalfTarget}
+use Rattle.pylock_command.specs.declared.misuse.Misuse.TheVariants.{Missing, NoFileFormat}
+use Rattle.pylock_command.specs.declared.misuse.Misuse.TheVariants.{NoMachine, NoPlanFormat}
+use Rattle.pylock_command.specs.declared.misuse.Misuse.TheVariants.{NoPlans, NoTime, StrayTime}
+use Rattle.pylock_command.specs.declared.misuse.Misuse.TheVariants.{TwoForms, TwoInputs}
+use Rattle.pylock_command.specs.declared.misuse.Misuse.TheVariants.{NoBase, NoUrls, TwoMachines}
 use Rattle.pylock_command.specs.declared.task.Task.{Task}
 
 pylock_app-is_simple_and_free : is_simple_and_free pylock_app ≡ true
@@ -30,6 +36,12 @@ memory-told NoPlans is = absurd cc
 memory-told TwoForms is = absurd cc
 memory-told NoPlanFormat is = absurd cc
 memory-told NoFileFormat is = absurd cc
+memory-told FormatOfRows is = absurd cc
+memory-told NoTime is = absurd cc
+memory-told StrayTime is = absurd cc
+memory-told BadTime is = absurd cc
+memory-told NoUrls is = absurd cc
+memory-told NoBase is = absurd cc
 memory-told EditsAndFile is = absurd cc
 memory-told TwoInputs is = absurd cc
 

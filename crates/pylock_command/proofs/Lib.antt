@@ -1,2 +1,3 @@
 pub mod PlanOptionLemmas
+pub mod BaseLemmas
 pub mod ClapLemmas

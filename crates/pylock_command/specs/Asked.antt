@@ -5,17 +5,20 @@ use Rattle.std.specs.Prelude.{if◌then◌else◌, option_map}
 use Rattle.std.specs.Borrow.{Bor}
 use Rattle.clap.specs.Words.{Row, Text, first_of}
 use Rattle.pylock_command.specs.PlanOptions.{AreOptions, has_plan_options}
-use Rattle.pylock_command.specs.Form.{IsOutput, form_of, output_misuse}
+use Rattle.pylock_command.specs.Form.{IsMatrixOutput, IsOutput, form_of, matrix_output_misuse}
+use Rattle.pylock_command.specs.Form.{output_misuse}
 use Rattle.pylock_command.specs.Machine.{IsMachine, machine_misuse, names_none, place_misuse}
 use Rattle.pylock_command.specs.Misuse.{first, lack}
 use Rattle.pylock_command.specs.Texts.{HasText, has_flag, input_misuse, inputs_misuse}
 use Rattle.pylock_command.specs.declared.misuse.Misuse.{Misuse}
 use Rattle.pylock_command.specs.declared.misuse.Misuse.TheVariants.{NoPlans}
+use Rattle.pylock_command.specs.declared.task.AuditQuestion.{AuditQuestion}
 use Rattle.pylock_command.specs.declared.task.Comparison.{Comparison}
 use Rattle.pylock_command.specs.declared.task.Installation.{Installation}
 use Rattle.pylock_command.specs.declared.task.MatrixQuestion.{MatrixQuestion}
 use Rattle.pylock_command.specs.declared.task.Opening.{Opening}
 use Rattle.pylock_command.specs.declared.task.Question.{Question}
+use Rattle.pylock_command.specs.declared.task.StatusQuestion.{StatusQuestion}
 use Rattle.pylock_command.specs.declared.task.View.{View}
 
 -- ---- `plan`, `explain` and `select`
@@ -55,7 +58,32 @@ IsMatrix rows asked = HasText rows (codes "LOCK") asked.lock.now
     × MayHave rows (codes "platform") asked.platforms
     × AreOptions rows asked.options.items
     × (asked.strict ≡ has_flag (codes "strict") rows)
-    × (asked.no_build ≡ has_flag (codes "no-build") rows) × (asked.form ≡ form_of rows)
+    × (asked.no_build ≡ has_flag (codes "no-build") rows) × IsMatrixOutput rows asked.output
+
+abbrev pub matrix_misuse : List Row → Option Misuse
+matrix_misuse rows = first (lack (codes "LOCK") rows ∷ matrix_output_misuse rows ∷ [])
+
+-- ---- `audit`
+
+-- the words name a lock
+abbrev pub IsAudit : List Row → AuditQuestion → Type 0
+IsAudit rows asked = HasText rows (codes "LOCK") asked.lock.now
+    × (asked.environments ≡ has_flag (codes "environments") rows) × (asked.form ≡ form_of rows)
+
+-- ---- `status`
+
+-- the words name a lock, a machine and a list of what is installed
+abbrev pub IsStatus : List Row → StatusQuestion → Type 0
+IsStatus rows asked = IsOpening rows asked.opening × AreOptions rows asked.options.items
+    × HasText rows (codes "installed") asked.installed.now
+    × (asked.exact ≡ has_flag (codes "exact") rows) × (asked.form ≡ form_of rows)
+
+-- of all files one at most is standard input
+abbrev pub status_misuse : List Row → Option Misuse
+status_misuse rows = first (opening_misuse rows ∷ lack (codes "installed") rows
+    ∷ inputs_misuse (codes "LOCK") (codes "ENV") rows
+    ∷ inputs_misuse (codes "LOCK") (codes "installed") rows
+    ∷ inputs_misuse (codes "ENV") (codes "installed") rows ∷ [])
 
 -- ---- `diff`
 

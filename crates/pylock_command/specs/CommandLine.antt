@@ -9,8 +9,9 @@ use Rattle.clap.specs.declared.error.Error.{Error}
 use Rattle.clap.specs.declared.error.kind.ErrorKind.TheVariants.{OutOfMemory}
 use Rattle.pylock_command.specs.Argument.{flag_rule, needed_rule, optional_rule, repeated_rule}
 use Rattle.pylock_command.specs.Argument.{single_rule, text_rule}
-use Rattle.pylock_command.specs.Asked.{IsComparison, IsMatrix, IsOpening, IsQuestion}
-use Rattle.pylock_command.specs.Asked.{comparison_misuse, question_misuse, select_misuse}
+use Rattle.pylock_command.specs.Asked.{IsAudit, IsComparison, IsMatrix, IsOpening, IsQuestion}
+use Rattle.pylock_command.specs.Asked.{IsStatus, comparison_misuse, matrix_misuse, question_misuse}
+use Rattle.pylock_command.specs.Asked.{select_misuse, status_misuse}
 use Rattle.pylock_command.specs.Form.{IsFilesOutput, files_output_misuse, form_of}
 use Rattle.pylock_command.specs.Machine.{IsMachine, IsTarget, machine_misuse, target_misuse}
 use Rattle.pylock_command.specs.Misuse.{first, kind_of_misuse, lack}
@@ -26,6 +27,7 @@ use Rattle.pylock_command.specs.declared.task.Question.{Question}
 use Rattle.pylock_command.specs.declared.task.Task.{Task}
 use Rattle.pylock_command.specs.declared.task.Task.TheVariants.{Audit, Bare, Diff, Environment}
 use Rattle.pylock_command.specs.declared.task.Task.TheVariants.{Files, Marker, Matrix, Select, Show}
+use Rattle.pylock_command.specs.declared.task.Task.TheVariants.{Status, Summary}
 use Rattle.pylock_command.specs.declared.task.Task.TheVariants as task
 use Rattle.pylock_command.specs.declared.task.TextQuestion.{TextQuestion}
 use Rattle.pylock_command.specs.declared.task.TextQuestion.TheVariants.{Match, Name, Requirement}
@@ -67,9 +69,15 @@ strict = flag_rule (codes "strict")
 abbrev pub format : Rule
 format = single_rule (codes "format")
 
+abbrev pub created : Rule
+created = single_rule (codes "created")
+
+abbrev pub base : Rule
+base = single_rule (codes "base")
+
 -- ---- the subcommands
 
--- the words of these have all their texts, of `files` no word but that of a form, and of `marker`
+-- the words of these have all their texts, of `files` no word but those of a form, and of `marker`
 -- they name a machine
 abbrev pub files_misuse : List Row → Option Misuse
 files_misuse rows = first (lack (codes "LOCK") rows ∷ files_output_misuse rows ∷ [])
@@ -87,36 +95,50 @@ locked rules = text_rule (codes "LOCK") ∷ rules
 abbrev pub text_row : Text → Subcommand
 text_row name = row name (text_rule (codes "TEXT") ∷ json ∷ []) (lack (codes "TEXT"))
 
-abbrev pub subcommands : List Subcommand
-subcommands =
-    row (codes "plan") (locked (machine_rules ++ option_rules ++ strict ∷ format ∷ json ∷ []))
-    (question_misuse Plan)
-    ∷ row (codes "explain") (locked (machine_rules ++ option_rules ++ strict ∷ json ∷ []))
-    (question_misuse Explain)
-    ∷ row (codes "select") (locked (machine_rules ++ strict ∷ json ∷ [])) select_misuse
-    ∷ row (codes "matrix")
-    (locked (target_rules ++ option_rules ++ flag_rule (codes "no-build") ∷ strict ∷ json ∷ []))
-    (lack (codes "LOCK"))
-    ∷ row (codes "files") (locked (format ∷ json ∷ [])) files_misuse
-    ∷ row (codes "audit") (locked (json ∷ [])) (lack (codes "LOCK"))
-    ∷ row (codes "diff") (text_rule (codes "OLD") ∷ text_rule (codes "NEW") ∷ in_rules
-    ++ option_rules ++ json ∷ []) comparison_misuse
-    ∷ row (codes "environment")
-    (needed_rule (codes "python") ∷ needed_rule (codes "platform") ∷ []) target_misuse
-    ∷ text_row (codes "version")
+-- those that ask about a text by itself, in an environment or not
+abbrev pub text_subcommands : List Subcommand
+text_subcommands =
+    text_row (codes "version")
     ∷ row (codes "match") (text_rule (codes "SET") ∷ text_rule (codes "VERSION") ∷ json ∷ [])
     match_misuse
     ∷ text_row (codes "name")
     ∷ row (codes "marker") (text_rule (codes "TEXT") ∷ machine_rules ++ json ∷ []) marker_misuse
     ∷ text_row (codes "requirement") ∷ text_row (codes "wheel") ∷ text_row (codes "sdist") ∷ []
 
+abbrev pub subcommands : List Subcommand
+subcommands =
+    row (codes "plan")
+    (locked (machine_rules ++ option_rules ++ strict ∷ format ∷ created ∷ base ∷ json ∷ []))
+    (question_misuse Plan)
+    ∷ row (codes "explain") (locked (machine_rules ++ option_rules ++ strict ∷ json ∷ []))
+    (question_misuse Explain)
+    ∷ row (codes "select") (locked (machine_rules ++ strict ∷ json ∷ [])) select_misuse
+    ∷ row (codes "matrix")
+    (locked (target_rules ++ option_rules ++ flag_rule (codes "no-build") ∷ strict
+    ∷ flag_rule (codes "files") ∷ format ∷ json ∷ [])) matrix_misuse
+    ∷ row (codes "status")
+    (locked (machine_rules ++ needed_rule (codes "installed") ∷ flag_rule (codes "exact")
+    ∷ option_rules ++ strict ∷ json ∷ [])) status_misuse
+    ∷ row (codes "show") (locked (json ∷ [])) (lack (codes "LOCK"))
+    ∷ row (codes "files") (locked (format ∷ base ∷ json ∷ [])) files_misuse
+    ∷ row (codes "audit") (locked (flag_rule (codes "environments") ∷ json ∷ []))
+    (lack (codes "LOCK"))
+    ∷ row (codes "diff") (text_rule (codes "OLD") ∷ text_rule (codes "NEW") ∷ in_rules
+    ++ option_rules ++ json ∷ []) comparison_misuse
+    ∷ row (codes "environment")
+    (needed_rule (codes "python") ∷ needed_rule (codes "platform") ∷ []) target_misuse
+    ∷ text_subcommands
+
 unfoldable pub pylock_app : App
 pylock_app = fold (λ app s. with_subcommand app (subcommand_app s).top) top_app subcommands
 
 -- why the words of a subcommand that clap takes are refused; one that is none of the program's is
+abbrev pub misuse_among : List Subcommand → Text → List Row → Option Misuse
+misuse_among known name rows =
+    option_map_or (λ s. s.misuse rows) (find (λ s. bytes_eq name s.name) known) (Some Missing)
+
 abbrev pub misuse_in : Text → List Row → Option Misuse
-misuse_in name rows = option_map_or (λ s. s.misuse rows)
-    (find (λ s. bytes_eq name s.name) subcommands) (Some Missing)
+misuse_in = misuse_among subcommands
 
 abbrev pub misuse_of : Option (Text × List Row) → Option Misuse
 misuse_of None = None
@@ -155,10 +177,12 @@ IsTask found (Show question) = IsShown found question question.output
 IsTask found (Select opening form) =
     IsIn found (codes "select") (λ rows. IsOpening rows opening × (form ≡ form_of rows))
 IsTask found (Matrix asked) = IsIn found (codes "matrix") (λ rows. IsMatrix rows asked)
+IsTask found (Status asked) = IsIn found (codes "status") (λ rows. IsStatus rows asked)
+IsTask found (Summary lock form) = IsIn found (codes "show")
+    (λ rows. HasText rows (codes "LOCK") lock.now × (form ≡ form_of rows))
 IsTask found (Files lock output) = IsIn found (codes "files")
     (λ rows. HasText rows (codes "LOCK") lock.now × IsFilesOutput rows output)
-IsTask found (Audit lock form) = IsIn found (codes "audit")
-    (λ rows. HasText rows (codes "LOCK") lock.now × (form ≡ form_of rows))
+IsTask found (Audit asked) = IsIn found (codes "audit") (λ rows. IsAudit rows asked)
 IsTask found (Diff comparison) = IsIn found (codes "diff") (λ rows. IsComparison rows comparison)
 IsTask found (Environment target) =
     IsIn found (codes "environment") (λ rows. IsTarget rows target)

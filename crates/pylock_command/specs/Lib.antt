@@ -1,8 +1,10 @@
 pub mod Argument
 pub mod Asked
+pub mod Base
 pub mod PlanOptions
 pub mod CommandLine
 pub mod Commands
+pub mod Created
 pub mod Form
 pub mod Machine
 pub mod Misuse

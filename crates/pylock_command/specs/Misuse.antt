@@ -7,10 +7,12 @@ use Rattle.clap.specs.declared.error.kind.ErrorKind.TheVariants.{ArgumentConflic
 use Rattle.clap.specs.declared.error.kind.ErrorKind.TheVariants.{MissingRequiredArgument}
 use Rattle.clap.specs.declared.error.kind.ErrorKind.TheVariants.{InvalidValue}
 use Rattle.pylock_command.specs.declared.misuse.Misuse.{Misuse}
-use Rattle.pylock_command.specs.declared.misuse.Misuse.TheVariants.{EditsAndFile, HalfTarget}
-use Rattle.pylock_command.specs.declared.misuse.Misuse.TheVariants.{Missing, NoFileFormat}
+use Rattle.pylock_command.specs.declared.misuse.Misuse.TheVariants.{BadTime, EditsAndFile}
+use Rattle.pylock_command.specs.declared.misuse.Misuse.TheVariants.{FormatOfRows, HalfTarget}
+use Rattle.pylock_command.specs.declared.misuse.Misuse.TheVariants.{Missing, NoBase, NoFileFormat}
 use Rattle.pylock_command.specs.declared.misuse.Misuse.TheVariants.{NoMachine, NoPlanFormat}
-use Rattle.pylock_command.specs.declared.misuse.Misuse.TheVariants.{NoPlans, TwoForms, TwoInputs}
+use Rattle.pylock_command.specs.declared.misuse.Misuse.TheVariants.{NoPlans, NoTime, NoUrls}
+use Rattle.pylock_command.specs.declared.misuse.Misuse.TheVariants.{StrayTime, TwoForms, TwoInputs}
 use Rattle.pylock_command.specs.declared.misuse.Misuse.TheVariants.{TwoMachines}
 use Rattle.pylock_command.specs.declared.misuse.NoTask.{NoTask}
 use Rattle.pylock_command.specs.declared.misuse.NoTask.TheVariants.{Memory, Misused}
@@ -21,11 +23,17 @@ kind_of_misuse Missing = MissingRequiredArgument
 kind_of_misuse NoMachine = MissingRequiredArgument
 kind_of_misuse HalfTarget = MissingRequiredArgument
 kind_of_misuse NoPlans = MissingRequiredArgument
+kind_of_misuse FormatOfRows = MissingRequiredArgument
+kind_of_misuse NoTime = MissingRequiredArgument
+kind_of_misuse NoUrls = MissingRequiredArgument
 kind_of_misuse TwoMachines = ArgumentConflict
 kind_of_misuse TwoForms = ArgumentConflict
+kind_of_misuse StrayTime = ArgumentConflict
 kind_of_misuse TwoInputs = ArgumentConflict
 kind_of_misuse NoPlanFormat = InvalidValue
 kind_of_misuse NoFileFormat = InvalidValue
+kind_of_misuse BadTime = InvalidValue
+kind_of_misuse NoBase = InvalidValue
 kind_of_misuse EditsAndFile = InvalidValue
 
 -- the first of these that there is

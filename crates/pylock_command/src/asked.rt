@@ -1,16 +1,20 @@
 //! What the subcommands with several arguments are asked, by what clap found.
 ghost use Rattle.std.specs.Prelude.{IfOk, codes};
 ghost use Rattle.clap.specs.Words.{found_of, rows_of};
-ghost use Rattle.pylock_command.specs.Asked.{IsComparison, IsInstallation, IsMatrix, IsOpening};
-ghost use Rattle.pylock_command.specs.Asked.{IsQuestion, comparison_misuse, installation_misuse};
-ghost use Rattle.pylock_command.specs.Asked.{opening_misuse, question_misuse, select_misuse};
+ghost use Rattle.pylock_command.specs.Asked.{IsAudit, IsComparison, IsInstallation, IsMatrix};
+ghost use Rattle.pylock_command.specs.Asked.{IsOpening, IsQuestion, IsStatus, comparison_misuse};
+ghost use Rattle.pylock_command.specs.Asked.{installation_misuse, matrix_misuse, opening_misuse};
+ghost use Rattle.pylock_command.specs.Asked.{question_misuse, select_misuse, status_misuse};
 ghost use Rattle.pylock_command.specs.Misuse.{Refuses, RefusesUnless, lack};
 
-use crate::form::{form_of, output_of};
+use crate::form::{form_of, matrix_output_of, output_of};
 use crate::machine::{machine_of, place_of};
 use crate::misuse::{Misuse, NoTask};
 use crate::options::options_of;
-use crate::task::{Comparison, Installation, MatrixQuestion, Opening, Question, View};
+use crate::task::{
+    AuditQuestion, Comparison, Installation, MatrixQuestion, Opening, Question, StatusQuestion,
+    View,
+};
 use crate::texts::{has_flag, judge_input, judge_inputs, text_at, text_of};
 use clap::ArgMatches;
 use std::alloc::Global;
@@ -64,9 +68,10 @@ pub(crate) fn matrix_of<'a>(
     found: &ArgMatches<'a>,
 ) -> Result<MatrixQuestion<'a>, NoTask>
     ensures matrix { IfOk result (IsMatrix (rows_of (found_of found.now))) }
-    ensures refused { RefusesUnless (lack (codes "LOCK") (rows_of (found_of found.now))) result }
+    ensures refused { RefusesUnless (matrix_misuse (rows_of (found_of found.now))) result }
 {
     let lock = text_of(found, "LOCK")?;
+    let output = matrix_output_of(found)?;
     let options = options_of(alloc, found)?;
     Ok(MatrixQuestion {
         lock,
@@ -75,6 +80,41 @@ pub(crate) fn matrix_of<'a>(
         options,
         strict: has_flag(found, "strict"),
         no_build: has_flag(found, "no-build"),
+        output,
+    })
+}
+
+/// What `audit` is asked.
+pub(crate) fn audit_of<'a>(found: &ArgMatches<'a>) -> Result<AuditQuestion<'a>, Misuse>
+    ensures audit { IfOk result (IsAudit (rows_of (found_of found.now))) }
+    ensures refused { Refuses (lack (codes "LOCK") (rows_of (found_of found.now))) result }
+{
+    Ok(AuditQuestion {
+        lock: text_of(found, "LOCK")?,
+        environments: has_flag(found, "environments"),
+        form: form_of(found),
+    })
+}
+
+/// What `status` is asked.
+pub(crate) fn status_of<'a>(
+    alloc: Global,
+    found: &ArgMatches<'a>,
+) -> Result<StatusQuestion<'a>, NoTask>
+    ensures status { IfOk result (IsStatus (rows_of (found_of found.now))) }
+    ensures refused { RefusesUnless (status_misuse (rows_of (found_of found.now))) result }
+{
+    let opening = opening_of(found)?;
+    let installed = text_of(found, "installed")?;
+    judge_inputs(found, "LOCK", "ENV")?;
+    judge_inputs(found, "LOCK", "installed")?;
+    judge_inputs(found, "ENV", "installed")?;
+    let options = options_of(alloc, found)?;
+    Ok(StatusQuestion {
+        opening,
+        options,
+        installed,
+        exact: has_flag(found, "exact"),
         form: form_of(found),
     })
 }

@@ -2,13 +2,14 @@
 ghost use Rattle.std.specs.Prelude.{◌≡◌, [], fold, map, None, Some, IfOk, IfErr, OnOk};
 ghost use Rattle.clap.specs.Words.{app_of, fault_of, found_of, kind_of, rows_of};
 ghost use Rattle.clap.specs.Words.{subcommand_of, subcommand_rows_of, with_subcommand};
-ghost use Rattle.pylock_command.specs.CommandLine.{IsRefusal, IsTask, misuse_in, misuse_of};
+ghost use Rattle.pylock_command.specs.CommandLine.{IsRefusal, IsTask, misuse_among, misuse_in};
+ghost use Rattle.pylock_command.specs.CommandLine.{misuse_of, text_subcommands};
 ghost use Rattle.pylock_command.specs.CommandLine.{pylock_app, top_app};
 ghost use Rattle.pylock_command.specs.Commands.{Adds, IsCommand, IsLocal};
-ghost use Rattle.pylock_command.specs.Misuse.{RefusesUnless, kind_of_misuse};
+ghost use Rattle.pylock_command.specs.Misuse.{Refuses, RefusesUnless, kind_of_misuse};
 ghost use Rattle.pylock_command.specs.Subcommand.{with_usage};
 
-use crate::asked::{comparison_of, matrix_of, question_of, select_of};
+use crate::asked::{audit_of, comparison_of, matrix_of, question_of, select_of, status_of};
 use crate::form::{files_output_of, form_of};
 use crate::help::ABOUT;
 use crate::machine::{machine_of, target_of};
@@ -58,7 +59,7 @@ impl From<clap::Error> for CommandError {
 ///
 /// No source can hold the sum of itself. So 64 characters stand in its place, and where a build is
 /// kept `tools/make/built stamp` writes the sum over them. No contract speaks of this text.
-const VERSION: &str = "1.11.0
+const VERSION: &str = "1.12.0
 sources (not told: rt built it; ./pylock and tools/release tell the sum), \
 proved in logic dac8208d650f15bf";
 
@@ -135,10 +136,24 @@ fn task_in<'a>(alloc: Global, name: &str, found: &ArgMatches<'a>) -> Result<Task
         "explain" => Task::Show(question_of(alloc, View::Explain, found)?),
         "select" => Task::Select(select_of(found)?, form),
         "matrix" => Task::Matrix(matrix_of(alloc, found)?),
+        "status" => Task::Status(status_of(alloc, found)?),
+        "show" => Task::Summary(text_of(found, "LOCK")?, form),
         "files" => Task::Files(text_of(found, "LOCK")?, files_output_of(found)?),
-        "audit" => Task::Audit(text_of(found, "LOCK")?, form),
+        "audit" => Task::Audit(audit_of(found)?),
         "diff" => Task::Diff(comparison_of(alloc, found)?),
         "environment" => Task::Environment(target_of(found)?),
+        _ => text_task_in(name, found)?,
+    })
+}
+
+/// The task of a subcommand that asks about a text by itself.
+fn text_task_in<'a>(name: &str, found: &ArgMatches<'a>) -> Result<Task<'a>, Misuse>
+    ensures task { IfOk result (IsTask (Some (name.now, rows_of (found_of found.now)))) }
+    ensures refused { Refuses
+        (misuse_among text_subcommands name.now (rows_of (found_of found.now))) result }
+{
+    let form = form_of(found);
+    Ok(match name {
         "version" => Task::Text(TextQuestion::Version(text_of(found, "TEXT")?), form),
         "match" => Task::Text(
             TextQuestion::Match(text_of(found, "SET")?, text_of(found, "VERSION")?),
@@ -149,7 +164,7 @@ fn task_in<'a>(alloc: Global, name: &str, found: &ArgMatches<'a>) -> Result<Task
         "requirement" => Task::Text(TextQuestion::Requirement(text_of(found, "TEXT")?), form),
         "wheel" => Task::Text(TextQuestion::Wheel(text_of(found, "TEXT")?), form),
         "sdist" => Task::Text(TextQuestion::Sdist(text_of(found, "TEXT")?), form),
-        _ => return Err(NoTask::Misused(Misuse::Missing)),
+        _ => return Err(Misuse::Missing),
     })
 }
 

@@ -74,6 +74,8 @@ marker-unset, and --set gives it.
   sha256sum           for sha256sum -c FILE
   aria2               for aria2c -i FILE
   urls                for wget -i FILE: a URL on each line
+  cyclonedx           a bill of materials, as a document of CycloneDX 1.6
+  spdx                the same as SPDX 2.3 has it, made at --created TIME
 
 Run the tool in the lock's folder, from which paths are meant:
   $ pylock plan pylock.toml env.json --format requirements-local
@@ -88,6 +90,11 @@ form doesn't hold is left out, and standard error counts it and names the first
 of it: of either requirements file what the other has, else what has no file
 name, URL or sha256. What the tool could read in another way is refused:
 standard error has refused, TAB, format, TAB and the number of the entry.
+
+With requirements, aria2 and urls, --base FROM=TO writes TO in place of FROM at
+the beginning of each URL of a file, as for a mirror. FROM is what stands before
+the first =, and both end in /. A URL that begins otherwise stays as it is, and
+standard error counts those.
 
 With --strict the lock is taken only where audit has none of these findings:
 no-packages, name-form, version, wrong-type, marker-extra, no-source,
@@ -201,10 +208,87 @@ plan, and hold for each target.
 With --json the answer is a document, whose member matrix has an object for each
 target.
 
+With --files it prints the files that the targets take, each once, as the
+command files prints those of a lock, and --json and --format are as there:
+  $ pylock matrix pylock.toml --python 3.12 --group docs --files --format urls
+  ..
+  https://downloads.acme.example/acme-theme-0.4.2.tar.gz
+  ..
+
+A target that has a fault takes none: the others' files are printed, the status
+is 1, and standard error names the target and its fault.
+
 Status: 0, a plan for each target; 1, a fault for one, or a refused option, or
-with --no-build something is built; 2, the lock, a word of the targets or the
-command line is refused; 3, a file can't be read, the output failed or memory
-ran out.";
+a form that can't hold the files, or with --no-build something is built; 2, the
+lock, a word of the targets or the command line is refused; 3, a file can't be
+read, the output failed or memory ran out.";
+
+pub(crate) const STATUS: &str = "\
+Example, with spaces for the TABs:
+  $ pylock status pylock.toml env.json --installed installed.json
+  install  acme-service  -  -
+  keep  acme-protocol  2.1.0  -
+  replace  certifi  2025.1.31  2024.12.14
+  ..
+  keep  pip  25.0  -
+  remove  six  1.17.0  -
+
+Prints what is to be done so that an environment has what plan prints: a line
+for each package of the plan, and then one for each other project that is
+installed. It is STEP NAME VERSION FROM, with TAB between two fields, and an
+absent field is -. STEP is one of these:
+  install  the package isn't installed
+  replace  it is installed in another version, or from elsewhere, and FROM is
+           the version that goes
+  keep     the project stays
+  remove   the project goes: the plan doesn't name it
+
+FILE is what pip list --format json or pip inspect prints in the environment.
+The first tells no more than names and versions. The second tells of a project
+its direct URL too: then a VCS source has to be of the commit, a directory has
+to be installed as the lock says, editable or not, and a file of the hash. What
+comes from an index is taken for any file. Of LOCK, ENV and FILE one at most
+is -.
+
+pip, setuptools and wheel stay where the plan doesn't name them, unless --exact
+is given. The options and a target are those of plan, and so is the line where
+the answer is a fault. With --json the answer is a document, whose member done
+tells whether nothing is to be done, and steps has an object for each line.
+
+A refused FILE prints installed, TAB and one of the words json, shape, element
+and twice; the last two have TAB and the element's place behind them.
+
+Status: 0, nothing is to be done; 1, something is, or the answer is a fault, or
+an option is refused; 2, the lock, the environment, FILE or the command line is
+refused; 3, a file can't be read, the output failed or memory ran out.";
+
+pub(crate) const SHOW: &str = "\
+Example, with spaces for the TABs:
+  $ pylock show pylock.toml
+  created-by  acme-lock
+  requires-python  >=3.9
+  ..
+  packages  22
+  wheel  19
+  ..
+
+Prints what a lock says of itself, a line for each of these, with TAB between
+two fields. An absent field is -.
+  created-by         what made the lock
+  requires-python    the Pythons that it is for
+  environments       the markers of the environments that it is for
+  extras             its extras
+  dependency-groups  its dependency groups
+  default-groups     those that are installed unless asked otherwise
+  packages           how many entries it has
+  wheel, sdist, archive, vcs, directory, editable
+                     how many entries have sources of this kind
+
+A lock is valid whatever they say. With --json the answer is a document, whose
+members have these names.
+
+Status: 0, an answer; 2, the lock or the command line is refused; 3, a file
+can't be read, the output failed or memory ran out.";
 
 pub(crate) const FILES: &str = "\
 Example:
@@ -233,6 +317,11 @@ VCS sources and directories are; standard error counts it and names the first:
 
 What the tool could read in another way is refused: standard error has refused,
 TAB, format, TAB and the number of the entry.
+
+With aria2 and urls, --base FROM=TO writes TO in place of FROM at the beginning
+of each URL, as for a mirror. FROM is what stands before the first =, and both
+end in /. A URL that begins otherwise stays as it is, and standard error counts
+those.
 
 Status: 0, the lines; 1, a form that can't hold them; 2, the lock or the
 command line is refused; 3, a file can't be read, the output failed or memory
@@ -291,6 +380,21 @@ FINDING is one of these:
 
 DETAIL shows as *** what stands between a slash and the last @ before the next
 /, and each value of a query; control characters as \\u{..}.
+
+With --environments it also looks at every environment that the lock is for, by
+its environments and requires-python, and finds these too:
+  clash               the entry and an earlier one of its name both apply in an
+                      environment
+  may-clash           they may: that they never do wasn't shown
+  never               the entry applies in no environment
+  may-never           it may apply in none: that it does wasn't shown
+  narrower-python     in an environment its marker is true or absent, and its
+                      requires-python doesn't admit the Python
+  may-be-narrower     it may be so: that it never is wasn't shown
+
+DETAIL is then the number of the earlier entry, and of clash the options that
+set the environment, or the version of the Python. What takes too long isn't
+worked out, so it is told by a finding with may.
 
 Status: 0, nothing was found; 1, something was; 2, the lock or the command line
 is refused; 3, a file can't be read, the output failed or memory ran out.";

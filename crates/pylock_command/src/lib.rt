@@ -16,7 +16,9 @@
 
 mod argument;
 mod asked;
+mod base;
 mod command_line;
+mod created;
 mod form;
 mod help;
 mod machine;
@@ -27,11 +29,13 @@ mod subcommand;
 mod task;
 mod texts;
 
+pub use base::Base;
 pub use command_line::{CommandError, command};
-pub use form::{FileFormat, Form, PlanFormat};
+pub use created::is_created;
+pub use form::{BillFormat, FileFormat, Form, PlanFormat};
 pub use machine::{Machine, TargetWords};
 pub use option::PlanOption;
 pub use task::{
-    Comparison, FilesOutput, Installation, MatrixQuestion, Opening, Output, Question, Task,
-    TextQuestion, View,
+    AuditQuestion, Comparison, FilesOutput, Installation, MatrixOutput, MatrixQuestion, Opening,
+    Output, Question, StatusQuestion, Task, TextQuestion, View,
 };

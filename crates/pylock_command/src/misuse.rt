@@ -23,8 +23,20 @@ pub(crate) enum Misuse {
     TwoForms,
     /// `--format` of `plan` has another text than the name of a form.
     NoPlanFormat,
-    /// `--format` of `files` has another text than the name of a form.
+    /// `--format` of `files` or `matrix` has another text than the name of a form.
     NoFileFormat,
+    /// `--format` of `matrix` stands without `--files`.
+    FormatOfRows,
+    /// An SPDX document is asked for without a time.
+    NoTime,
+    /// A time stands where no SPDX document is asked for.
+    StrayTime,
+    /// `--created` has another text than a time.
+    BadTime,
+    /// `--base` stands without a form that has URLs of files.
+    NoUrls,
+    /// `--base` has another text than two that end in `/` with a `=` between them.
+    NoBase,
     /// A file of `select` is standard input.
     EditsAndFile,
     /// Two files are standard input.
@@ -37,15 +49,21 @@ impl Misuse {
         ensures { result ≡ kind_of_misuse self }
     {
         match self {
-            Misuse::Missing | Misuse::NoMachine | Misuse::HalfTarget | Misuse::NoPlans => {
-                ErrorKind::MissingRequiredArgument
-            }
-            Misuse::TwoMachines | Misuse::TwoForms | Misuse::TwoInputs => {
+            Misuse::Missing
+            | Misuse::NoMachine
+            | Misuse::HalfTarget
+            | Misuse::NoPlans
+            | Misuse::FormatOfRows
+            | Misuse::NoTime
+            | Misuse::NoUrls => ErrorKind::MissingRequiredArgument,
+            Misuse::TwoMachines | Misuse::TwoForms | Misuse::StrayTime | Misuse::TwoInputs => {
                 ErrorKind::ArgumentConflict
             }
-            Misuse::NoPlanFormat | Misuse::NoFileFormat | Misuse::EditsAndFile => {
-                ErrorKind::InvalidValue
-            }
+            Misuse::NoPlanFormat
+            | Misuse::NoFileFormat
+            | Misuse::BadTime
+            | Misuse::NoBase
+            | Misuse::EditsAndFile => ErrorKind::InvalidValue,
         }
     }
 
@@ -61,9 +79,16 @@ impl Misuse {
             Misuse::NoPlans => { "the options of plan want --in, or --python and --platform" }
             Misuse::TwoForms => "--format can't be used with --json",
             Misuse::NoPlanFormat => {
-                "--format takes requirements, requirements-local, sha256sum, aria2 or urls"
+                "--format takes requirements, requirements-local, sha256sum, aria2, urls, \
+                 cyclonedx or spdx"
             }
             Misuse::NoFileFormat => "--format takes sha256sum, aria2 or urls",
+            Misuse::FormatOfRows => "--format of matrix wants --files",
+            Misuse::NoTime => "--format spdx wants --created",
+            Misuse::StrayTime => "--created can be used with --format spdx alone",
+            Misuse::BadTime => "--created takes a time, such as 2026-07-24T12:00:00Z",
+            Misuse::NoUrls => "--base wants --format requirements, aria2 or urls",
+            Misuse::NoBase => "--base takes FROM=TO, and each of the two ends in /",
             Misuse::EditsAndFile => {
                 "select reads its edits from standard input, so LOCK and ENV can't be -"
             }

@@ -6,7 +6,8 @@ ghost use Rattle.pylock_command.specs.Subcommand.{usage_app};
 ghost use Rattle.pylock_command.specs.Commands.{IsCommand, IsLocal};
 
 use crate::argument::{Argument, Kind, with_groups};
-use crate::form::{FORMAT, JSON, JSON_LINES};
+use crate::base::BASE;
+use crate::form::{CREATED, FILES, FORMAT, JSON, JSON_LINES};
 use crate::help;
 use crate::machine::{ENV, IN, NEEDED_TARGET, SELECT_ENV, TARGET, TARGETS};
 use crate::options::CHOICES;
@@ -107,12 +108,35 @@ const NO_BUILD: Argument = Argument {
     help: "End with 1 where something is built from source",
 };
 
+const ENVIRONMENTS: Argument = Argument {
+    name: "environments",
+    kind: Kind::Flag,
+    help: "Look at every environment that the lock is for too",
+};
+
+const INSTALLED: Argument = Argument {
+    name: "installed",
+    kind: Kind::Needed("FILE"),
+    help: "What pip inspect or pip list --format json prints",
+};
+
+const EXACT: Argument = Argument {
+    name: "exact",
+    kind: Kind::Flag,
+    help: "Remove pip, setuptools and wheel too",
+};
+
 /// The subcommands, in the order of the help.
-pub(crate) const SUBCOMMANDS: [Usage; 15] = [
+pub(crate) const SUBCOMMANDS: [Usage; 17] = [
     Usage {
         name: "plan",
         about: "Print what a lock installs in an environment",
-        arguments: &[&[LOCK, ENV], &TARGET, &CHOICES, &[STRICT, FORMAT, JSON]],
+        arguments: &[
+            &[LOCK, ENV],
+            &TARGET,
+            &CHOICES,
+            &[STRICT, FORMAT, CREATED, BASE, JSON],
+        ],
         reply: help::PLAN,
     },
     Usage {
@@ -130,19 +154,42 @@ pub(crate) const SUBCOMMANDS: [Usage; 15] = [
     Usage {
         name: "matrix",
         about: "Print what a lock installs on each of several machines",
-        arguments: &[&[LOCK], &TARGETS, &CHOICES, &[NO_BUILD, STRICT, JSON]],
+        arguments: &[
+            &[LOCK],
+            &TARGETS,
+            &CHOICES,
+            &[NO_BUILD, STRICT, FILES, FORMAT, JSON],
+        ],
         reply: help::MATRIX,
+    },
+    Usage {
+        name: "status",
+        about: "Print what is to be done so that an environment has the plan",
+        arguments: &[
+            &[LOCK, ENV],
+            &TARGET,
+            &[INSTALLED, EXACT],
+            &CHOICES,
+            &[STRICT, JSON],
+        ],
+        reply: help::STATUS,
+    },
+    Usage {
+        name: "show",
+        about: "Print what a lock says of itself",
+        arguments: &[&[LOCK, JSON]],
+        reply: help::SHOW,
     },
     Usage {
         name: "files",
         about: "Print every source that a lock names, whatever machine it is for",
-        arguments: &[&[LOCK, FORMAT, JSON]],
+        arguments: &[&[LOCK, FORMAT, BASE, JSON]],
         reply: help::FILES,
     },
     Usage {
         name: "audit",
         about: "Print what a careful reader of a lock should know",
-        arguments: &[&[LOCK, JSON]],
+        arguments: &[&[LOCK, ENVIRONMENTS, JSON]],
         reply: help::AUDIT,
     },
     Usage {

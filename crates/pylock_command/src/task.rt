@@ -1,6 +1,7 @@
 //! What the program is asked to do.
 
-use crate::form::{FileFormat, Form, PlanFormat};
+use crate::base::Base;
+use crate::form::{BillFormat, FileFormat, Form, PlanFormat};
 use crate::machine::{Machine, TargetWords};
 use crate::option::PlanOption;
 
@@ -15,20 +16,31 @@ pub enum View {
 
 /// How the answer of `plan` or `explain` is printed.
 #[derive(Clone, Copy, Debug, PartialEq, Eq)]
-pub enum Output {
+pub enum Output<'a> {
     /// What is shown, in a form.
     View(View, Form),
-    /// The plan in a form that another tool takes.
-    Tool(PlanFormat),
+    /// The plan in a form that another tool takes, with the URLs on the base that there may be.
+    Tool(PlanFormat, Option<Base<'a>>),
+    /// The plan's bill of materials.
+    Bill(BillFormat<'a>),
 }
 
 /// How the sources of a lock are printed.
 #[derive(Clone, Copy, Debug, PartialEq, Eq)]
-pub enum FilesOutput {
+pub enum FilesOutput<'a> {
     /// Every source, in a form.
     Shown(Form),
-    /// The files in a form that another tool takes.
-    Tool(FileFormat),
+    /// The files in a form that another tool takes, with the URLs on the base that there may be.
+    Tool(FileFormat, Option<Base<'a>>),
+}
+
+/// How the answer of `matrix` is printed.
+#[derive(Clone, Copy, Debug, PartialEq, Eq)]
+pub enum MatrixOutput<'a> {
+    /// A row for each target, in a form.
+    Rows(Form),
+    /// The files that the targets take, each once.
+    Files(FilesOutput<'a>),
 }
 
 /// A lock for a machine: what a session is opened on.
@@ -50,7 +62,7 @@ pub struct Question<'a> {
     /// The options.
     pub options: Vec<PlanOption<'a>>,
     /// How the answer is printed.
-    pub output: Output,
+    pub output: Output<'a>,
 }
 
 /// For which machine two locks are compared, and with which options.
@@ -75,6 +87,17 @@ pub struct Comparison<'a> {
     pub form: Form,
 }
 
+/// What `audit` is asked.
+#[derive(Clone, Copy, Debug)]
+pub struct AuditQuestion<'a> {
+    /// The path of the lock, of which `-` is standard input.
+    pub lock: &'a str,
+    /// Whether every environment that the lock is for is looked at too.
+    pub environments: bool,
+    /// The form of the answer.
+    pub form: Form,
+}
+
 /// What `matrix` is asked.
 #[derive(Debug, Drop)]
 pub struct MatrixQuestion<'a> {
@@ -90,6 +113,22 @@ pub struct MatrixQuestion<'a> {
     pub strict: bool,
     /// Whether the status tells that something is built from source.
     pub no_build: bool,
+    /// How the answer is printed.
+    pub output: MatrixOutput<'a>,
+}
+
+/// What `status` is asked.
+#[derive(Debug, Drop)]
+pub struct StatusQuestion<'a> {
+    /// The lock and the machine.
+    pub opening: Opening<'a>,
+    /// The options.
+    pub options: Vec<PlanOption<'a>>,
+    /// The path of the list of what is installed, of which `-` is standard input. Of all paths of a
+    /// question one at most is `-`.
+    pub installed: &'a str,
+    /// Whether nothing else may be installed but what the plan names.
+    pub exact: bool,
     /// The form of the answer.
     pub form: Form,
 }
@@ -123,10 +162,14 @@ pub enum Task<'a> {
     Select(Opening<'a>, Form),
     /// `matrix`, with what it is asked.
     Matrix(MatrixQuestion<'a>),
+    /// `status`, with what it is asked.
+    Status(StatusQuestion<'a>),
+    /// `show`, with the path of the lock, and the form of the answer.
+    Summary(&'a str, Form),
     /// `files`, with the path of the lock, and how its sources are printed.
-    Files(&'a str, FilesOutput),
-    /// `audit`, with the path of the lock, and the form of the answer.
-    Audit(&'a str, Form),
+    Files(&'a str, FilesOutput<'a>),
+    /// `audit`, with what it is asked.
+    Audit(AuditQuestion<'a>),
     /// `diff`, with what it is asked.
     Diff(Comparison<'a>),
     /// `environment`, with the words of the target.

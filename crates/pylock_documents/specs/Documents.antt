@@ -72,6 +72,11 @@ files_from number (entry ∷ entries) =
 abbrev pub files_rows : List EntryValue → List Row
 files_rows entries = (codes "files", Some (list_of (files_from 1 entries))) ∷ []
 
+-- the document of those that picks name
+abbrev pub picked_rows : State → List Pick → List Row
+picked_rows state picks =
+    (codes "files", Some (list_of (flat_map (pick_data state) picks))) ∷ []
+
 -- ---- explain
 
 abbrev pub verdict_rows : List ℕ → Option (List ℕ) → List Row

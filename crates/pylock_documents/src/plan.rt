@@ -6,7 +6,7 @@ ghost use Rattle.std.specs.List.{flat_map};
 ghost use Rattle.serde_json.specs.View.{members_view, view as data_of};
 ghost use Rattle.pylock_json.specs.Json.{members_of, object_of};
 ghost use Rattle.pylock_documents.specs.Documents.{answer_rows, fault_detail, fault_rows};
-ghost use Rattle.pylock_documents.specs.Documents.{pick_data};
+ghost use Rattle.pylock_documents.specs.Documents.{pick_data, picked_rows};
 
 use crate::reasons::{detail, head_detail};
 use crate::source::source_object;
@@ -35,6 +35,22 @@ pub fn plan_document(
             object.put(alloc, "fault", fault)?;
         }
     }
+    Ok(object)
+}
+
+/// The document of the sources that picks name, as [`files_document`](crate::files_document) has
+/// those of a lock. It takes memory for the object.
+pub fn picked_document(
+    alloc: Global,
+    session: &Session,
+    picks: &[Pick],
+) -> Result<Object, AllocError>
+    ensures { IfOk result (λ object. members_view object
+        ≡ members_of (picked_rows session.now.state picks.now)) }
+{
+    let files = picks_list(alloc, session, picks)?;
+    let mut object = Object::new(alloc);
+    object.put(alloc, "files", files.into_json())?;
     Ok(object)
 }
 

@@ -10,6 +10,7 @@ use Rattle.pymark_core.specs.Environment.{AreNamesOf, EnvironmentValue, variable
 use Rattle.pymark_core.specs.Variables.{variable_name, variables}
 use Rattle.pymark_core.specs.declared.variable.Var.{Var}
 use Rattle.pymark_core.specs.declared.variable.Var.TheVariants.{PythonFullVersion}
+use Rattle.pylock_shown.specs.Hidden.{hidden}
 use Rattle.pylock_environments.specs.declared.finding.Found.{Found}
 use Rattle.pylock_environments.specs.declared.finding.Found.TheVariants.{Clash, MayClash, Never}
 use Rattle.pylock_environments.specs.declared.finding.Found.TheVariants.{MayNever}
@@ -36,11 +37,11 @@ shell_word text = if list_all is_plain text then text else quoted text
 
 -- ---- the words of an environment
 
--- a variable, if it is set
+-- a variable, if it is set, whose text is shown without secrets
 abbrev pub variable_words : EnvironmentValue → Var → List ℕ
 variable_words environment variable =
     option_map_or
-    (λ text. codes " --set " ++ variable_name variable ++ codes "=" ++ shell_word text)
+    (λ text. codes " --set " ++ variable_name variable ++ codes "=" ++ shell_word (hidden text))
     (variable_in variable environment) []
 
 -- names, each behind its option

@@ -7,35 +7,42 @@ ghost use Rattle.pymark_core.specs.Variables.{variables};
 ghost use Rattle.pylock_environments.specs.Detail.{AreWordsOf, is_plain, name_words, quoted};
 ghost use Rattle.pylock_environments.specs.Detail.{quoted_character, shell_word, variable_words};
 
+use pylock_shown::hidden;
 use pymark_core::{Environment, Names, Var};
-use std::alloc::AllocError;
+use std::alloc::{AllocError, Global};
 
 /// Pushes the words of the environment.
 pub(crate) fn push_environment(
+    alloc: Global,
     out: &mut String,
     environment: &Environment,
 ) -> Result<(), AllocError>
     ensures { OnOk result ((words : List ℕ) × AreWordsOf environment.now words
         × (string_bytes out.new ≡ string_bytes out.old ++ words)) }
 {
-    push_variables(out, environment)?;
+    push_variables(alloc, out, environment)?;
     push_names(out, " --extra ", environment.extras())?;
     push_names(out, " --group ", environment.groups())
 }
 
 /// Pushes the variables that are set.
-fn push_variables(out: &mut String, environment: &Environment) -> Result<(), AllocError>
+fn push_variables(
+    alloc: Global,
+    out: &mut String,
+    environment: &Environment,
+) -> Result<(), AllocError>
     ensures { OnOk result (string_bytes out.new
         ≡ string_bytes out.old ++ flat_map (variable_words environment.now) variables) }
 {
     for variable in Var::all() {
-        push_variable(out, environment, variable)?;
+        push_variable(alloc, out, environment, variable)?;
     }
     Ok(())
 }
 
-/// Pushes the variable, if it is set.
+/// Pushes the variable, if it is set. Its text is one of the lock, which is shown without secrets.
 fn push_variable(
+    alloc: Global,
     out: &mut String,
     environment: &Environment,
     variable: Var,
@@ -49,7 +56,8 @@ fn push_variable(
     out.push_str(" --set ")?;
     out.push_str(variable.name())?;
     out.push_str("=")?;
-    push_word(out, text)
+    let shown = hidden(alloc, text)?;
+    push_word(out, &shown)
 }
 
 /// Pushes the names, each behind the option.

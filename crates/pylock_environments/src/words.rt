@@ -12,8 +12,10 @@ use std::alloc::{AllocError, Global};
 
 /// The detail of a finding: the number of the other entry, and of a clash the options that set its
 /// environment (` --set os_name=posix --extra tests`); the version of the Python that the entry
-/// doesn't admit. A value stands as it is where its bytes are ASCII letters, digits and `._+-`, and
-/// else between quotes, as a POSIX shell reads it. It takes memory for the text.
+/// doesn't admit. A value is shown without secrets (`pylock_shown`): as it stands where its bytes
+/// are ASCII letters, digits and `._+-`, and else between quotes, as a POSIX shell reads it.
+///
+/// It takes memory for the text, and for one value at a time.
 pub fn detail(alloc: Global, found: &Found) -> Result<Option<String>, AllocError>
     ensures { IfOk result (λ text. IsDetail found.now (option_map string_bytes text)) }
 {
@@ -30,7 +32,7 @@ fn clash_text(alloc: Global, other: usize, environment: &Environment) -> Result<
         × (string_bytes text ≡ decimal other ++ words)) }
 {
     let mut text = number_text(alloc, other)?;
-    push_environment(&mut text, environment)?;
+    push_environment(alloc, &mut text, environment)?;
     Ok(text)
 }
 

@@ -32,6 +32,12 @@ kept_again form kept s value result listed taken some is = rw (listed, taken, so
     by (Ok u) = refl
     by (Err e) = λ _. refl
 
+-- a source that has a name of its own
+pub kept_newly : (form : FileFormat) (kept more : List ListedValue) (s : ListedValue) → is_left form s.source ≡ false
+    → at_number s.number (list_check form s.source) ≡ Ok tt → value_named form (key_of form s.source) kept ≡ None
+    → more ≡ kept ++ s ∷ [] → with_source form kept s ≡ Ok more
+kept_newly form kept more s listed taken none is = rw (listed, taken, none, is) refl
+
 -- ---- the table
 
 swap : (a b : List ℕ) → bytes_eq a b ≡ bytes_eq b a

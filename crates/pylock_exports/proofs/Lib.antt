@@ -8,6 +8,7 @@ mod NextLemmas
 mod OnceLemmas
 mod ParentLemmas
 mod PipLemmas
+mod SourceLemmas
 mod SplitLemmas
 mod StepLemmas
 mod TextLemmas

@@ -7,4 +7,5 @@ pub mod Lists
 pub mod Pip
 pub mod Requirements
 pub mod Texts
+pub mod Base
 pub mod Inner

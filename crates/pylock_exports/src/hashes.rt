@@ -3,10 +3,10 @@
 ghost use Rattle.std.specs.Prelude.{◌≡◌};
 ghost use Rattle.std.specs.Option.{option_copied};
 ghost use Rattle.pylock_readers.specs.Text.{text_pairs};
-ghost use Rattle.pylock_core.specs.Session.Picks.{lent_source};
+ghost use Rattle.pylock_exports.specs.Inner.{written};
 ghost use Rattle.pylock_exports.specs.Listed.{hash_of, sha256_of};
 
-use pylock_core::PickedSource;
+use crate::source::Source;
 
 /// An algorithm and its value.
 pub(crate) type Hash = (String, String);
@@ -24,8 +24,8 @@ pub(crate) fn hash_of<'a>(algorithm: &str, hashes: &'a [Hash]) -> Option<&'a str
 }
 
 /// The SHA-256 of a source.
-pub(crate) fn sha256_of(source: PickedSource<'_>) -> Option<&str>
-    ensures { option_copied result ≡ sha256_of (lent_source source.entry) }
+pub(crate) fn sha256_of(source: Source<'_>) -> Option<&str>
+    ensures { option_copied result ≡ sha256_of (written source.entry) }
 {
     hash_of("sha256", source.hashes())
 }

@@ -1,15 +1,14 @@
 //! What a form has no line of.
 
 ghost use Rattle.std.specs.Prelude.{[], ◌≡◌, ◌++◌, ◌-◌, ◌∷◌, IfOk, OnOk, length, map, take};
-ghost use Rattle.pylock_core.specs.Session.Picks.{lent_source};
-ghost use Rattle.pylock_exports.specs.Inner.{all_lent, lent};
+ghost use Rattle.pylock_exports.specs.Inner.{all_lent, lent, written};
 ghost use Rattle.pylock_exports.specs.Texts.{entry_of, first_left, is_left_out, left_out};
 ghost use Rattle.pylock_exports.specs.Texts.{shown_left};
 
 use crate::listed::Listed;
 use crate::lists::is_left;
+use crate::source::Source;
 use pylock_command::PlanFormat;
-use pylock_core::PickedSource;
 use std::alloc::{AllocError, Global};
 
 /// How many of the sources without a line are named.
@@ -31,12 +30,12 @@ impl Drop for LeftSource {
 }
 
 /// Whether the form has no line of a source.
-fn is_left_out(
+pub(crate) fn is_left_out(
     alloc: Global,
     form: PlanFormat,
-    source: PickedSource<'_>,
+    source: Source<'_>,
 ) -> Result<bool, AllocError>
-    ensures { IfOk result (λ left. left ≡ is_left_out form (lent_source source.entry)) }
+    ensures { IfOk result (λ left. left ≡ is_left_out form (written source.entry)) }
 {
     match form {
         PlanFormat::Requirements => Ok(source.is_unhashed()),

@@ -19,6 +19,7 @@
 //! ```
 #![tactic(auto)]
 
+mod base;
 mod class;
 mod export;
 mod file_names;
@@ -31,6 +32,7 @@ mod message;
 mod parts;
 mod refusal;
 mod requirements;
+mod source;
 
 pub use export::{Exported, export_files, export_plan};
 pub use left::LeftSource;

@@ -2,14 +2,15 @@
 
 ghost use Rattle.std.specs.Prelude.{◌≡◌, ◌++◌, IfOk, OnOk, map, option_map, string_bytes};
 ghost use Rattle.std.specs.Option.{option_copied};
-ghost use Rattle.pylock_core.specs.Session.Picks.{lent_named, lent_source, sources};
-ghost use Rattle.pylock_exports.specs.Inner.{all_lent};
+ghost use Rattle.pylock_core.specs.Session.Picks.{lent_named, sources};
+ghost use Rattle.pylock_exports.specs.Inner.{all_lent, written};
 ghost use Rattle.pylock_exports.specs.Listed.{file_name_of_source, last_of, listed, path_alone};
 ghost use Rattle.pylock_exports.specs.Listed.{path_of, picked_source, plan_sources, sources_from};
 ghost use Rattle.pylock_exports.specs.Listed.{url_of};
 
 use crate::file_names::last_part;
-use pylock_core::{Entry, NamedSource, Pick, PickedSource, Session, sources};
+use crate::source::Source;
+use pylock_core::{Entry, NamedSource, Pick, Session, sources};
 use std::alloc::{AllocError, Global};
 
 /// A source of an entry, with the entry's number.
@@ -17,7 +18,7 @@ use std::alloc::{AllocError, Global};
 pub(crate) struct Listed<'a> {
     pub(crate) number: u64,
     pub(crate) entry: &'a Entry,
-    pub(crate) source: PickedSource<'a>,
+    pub(crate) source: Source<'a>,
 }
 
 /// The sources of a plan on a session, in the plan's order.
@@ -53,7 +54,7 @@ fn push_pick<'a>(
     list.push(Listed {
         number: u64::from(pick.id),
         entry,
-        source,
+        source: Source::own(source),
     })?;
     Ok(())
 }
@@ -99,15 +100,15 @@ fn push_named<'a>(
         list.push(Listed {
             number,
             entry,
-            source: name.source,
+            source: Source::own(name.source),
         })?;
     }
     Ok(())
 }
 
 /// Where a file is fetched from.
-pub(crate) fn url_of(source: PickedSource<'_>) -> Option<&str>
-    ensures { option_copied result ≡ url_of (lent_source source.entry) }
+pub(crate) fn url_of(source: Source<'_>) -> Option<&str>
+    ensures { option_copied result ≡ url_of (written source.entry) }
 {
     if source.is_unhashed() {
         None
@@ -116,8 +117,8 @@ pub(crate) fn url_of(source: PickedSource<'_>) -> Option<&str>
     }
 }
 
-fn path_of(source: PickedSource<'_>) -> Option<&str>
-    ensures { option_copied result ≡ path_of (lent_source source.entry) }
+fn path_of(source: Source<'_>) -> Option<&str>
+    ensures { option_copied result ≡ path_of (written source.entry) }
 {
     if source.is_unhashed() {
         None
@@ -127,8 +128,8 @@ fn path_of(source: PickedSource<'_>) -> Option<&str>
 }
 
 /// The path of a file that has no URL.
-pub(crate) fn path_alone(source: PickedSource<'_>) -> Option<&str>
-    ensures { option_copied result ≡ path_alone (lent_source source.entry) }
+pub(crate) fn path_alone(source: Source<'_>) -> Option<&str>
+    ensures { option_copied result ≡ path_alone (written source.entry) }
 {
     match url_of(source) {
         Some(_) => None,
@@ -137,24 +138,22 @@ pub(crate) fn path_alone(source: PickedSource<'_>) -> Option<&str>
 }
 
 /// What the URL of a file ends in, else its path.
-pub(crate) fn last_of(alloc: Global, source: PickedSource<'_>) -> Result<Option<String>, AllocError>
+pub(crate) fn last_of(alloc: Global, source: Source<'_>) -> Result<Option<String>, AllocError>
     ensures { IfOk result (λ last. option_map string_bytes last
-        ≡ last_of (lent_source source.entry)) }
+        ≡ last_of (written source.entry)) }
 {
     last_part(alloc, url_of(source), path_of(source))
 }
 
 /// The file name of a source. That of an archive is what its URL ends in, else its path.
-pub(crate) fn file_name_of(
-    alloc: Global,
-    source: PickedSource<'_>,
-) -> Result<Option<String>, AllocError>
+pub(crate) fn file_name_of(alloc: Global, source: Source<'_>) -> Result<Option<String>, AllocError>
     ensures { IfOk result (λ name. option_map string_bytes name
-        ≡ file_name_of_source (lent_source source.entry)) }
+        ≡ file_name_of_source (written source.entry)) }
 {
-    match source.file() {
-        Some(file) => owned(alloc, file.file_name()),
-        None => last_of(alloc, source),
+    if source.is_file() {
+        source.file_name(alloc)
+    } else {
+        last_of(alloc, source)
     }
 }
 

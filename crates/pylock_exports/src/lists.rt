@@ -6,8 +6,7 @@ ghost use Rattle.std.specs.BTreeMap.{get_by_text};
 ghost use Rattle.std.specs.List.{flat_map};
 ghost use Rattle.std.specs.Option.{option_copied};
 ghost use Rattle.pytext.specs.Agreement.{Gives};
-ghost use Rattle.pylock_core.specs.Session.Picks.{lent_source};
-ghost use Rattle.pylock_exports.specs.Inner.{all_lent, Holds, lent};
+ghost use Rattle.pylock_exports.specs.Inner.{all_lent, Holds, lent, written};
 ghost use Rattle.pylock_exports.specs.Lists.{aria2_name_check, fetched_check, is_control_file};
 ghost use Rattle.pylock_exports.specs.Lists.{is_left, key_of, lacks, lines_named, list_check};
 ghost use Rattle.pylock_exports.specs.Lists.{listed_check, name_in, own_sum_check, source_lines};
@@ -28,8 +27,8 @@ use crate::parts::{
 };
 use crate::refusal::{ExportError, Field, FieldFault, Reason, at_number};
 use crate::requirements::push_path;
+use crate::source::Source;
 use pylock_command::FileFormat;
-use pylock_core::PickedSource;
 use std::alloc::{AllocError, Global};
 use std::collections::BTreeMap;
 
@@ -40,10 +39,10 @@ use std::collections::BTreeMap;
 pub(crate) fn name_in(
     alloc: Global,
     format: FileFormat,
-    source: PickedSource<'_>,
+    source: Source<'_>,
 ) -> Result<Option<String>, AllocError>
     ensures { IfOk result (λ name. option_map string_bytes name
-        ≡ name_in format (lent_source source.entry)) }
+        ≡ name_in format (written source.entry)) }
 {
     match format {
         FileFormat::Sha256sum => match path_alone(source) {
@@ -56,8 +55,8 @@ pub(crate) fn name_in(
 }
 
 /// What is one for each of these: the SHA-256 of a file, and of `urls` again the URL.
-fn value_of(format: FileFormat, source: PickedSource<'_>) -> &str
-    ensures { result.now ≡ value_of format (lent_source source.entry) }
+fn value_of(format: FileFormat, source: Source<'_>) -> &str
+    ensures { result.now ≡ value_of format (written source.entry) }
 {
     let value = match format {
         FileFormat::Sha256sum | FileFormat::Aria2 => sha256_of(source),
@@ -68,8 +67,8 @@ fn value_of(format: FileFormat, source: PickedSource<'_>) -> &str
 
 /// Whether a source lacks what a list has beside its name: the SHA-256, or the URL that it is
 /// fetched from.
-fn lacks(format: FileFormat, source: PickedSource<'_>) -> bool
-    ensures { result ≡ lacks format (lent_source source.entry) }
+fn lacks(format: FileFormat, source: Source<'_>) -> bool
+    ensures { result ≡ lacks format (written source.entry) }
 {
     match format {
         FileFormat::Sha256sum => sha256_of(source).is_none(),
@@ -82,9 +81,9 @@ fn lacks(format: FileFormat, source: PickedSource<'_>) -> bool
 pub(crate) fn is_left(
     alloc: Global,
     format: FileFormat,
-    source: PickedSource<'_>,
+    source: Source<'_>,
 ) -> Result<bool, AllocError>
-    ensures { IfOk result (λ left. left ≡ is_left format (lent_source source.entry)) }
+    ensures { IfOk result (λ left. left ≡ is_left format (written source.entry)) }
 {
     match name_in(alloc, format, source)? {
         Some(_) => Ok(lacks(format, source)),
@@ -131,8 +130,8 @@ fn check_aria2_name(name: &str) -> Result<(), FieldFault>
 }
 
 /// A SHA-256 that has to be there.
-fn check_own_sum(source: PickedSource<'_>) -> Result<(), FieldFault>
-    ensures { result ≡ own_sum_check (lent_source source.entry) }
+fn check_own_sum(source: Source<'_>) -> Result<(), FieldFault>
+    ensures { result ≡ own_sum_check (written source.entry) }
 {
     match sha256_of(source) {
         Some(value) => check_hash(64, value),
@@ -143,11 +142,11 @@ fn check_own_sum(source: PickedSource<'_>) -> Result<(), FieldFault>
 /// A source that is named so, and whose URL ends so.
 fn check_listed(
     format: FileFormat,
-    source: PickedSource<'_>,
+    source: Source<'_>,
     name: &str,
     last: Option<&str>,
 ) -> Result<(), FieldFault>
-    ensures { result ≡ listed_check format (lent_source source.entry) name.now
+    ensures { result ≡ listed_check format (written source.entry) name.now
         (option_copied last.entry) }
 {
     match format {
@@ -280,9 +279,9 @@ fn push_sum_name(text: &mut String, path: Option<&str>, name: &str) -> Result<()
 }
 
 #[tactic(auto, using(crate::proofs::TextLemmas::four_parts))]
-fn push_sum(text: &mut String, source: PickedSource<'_>, name: &str) -> Result<(), AllocError>
+fn push_sum(text: &mut String, source: Source<'_>, name: &str) -> Result<(), AllocError>
     ensures { OnOk result (string_bytes text.new ≡ string_bytes text.old
-        ++ lines_text (lines_named Sha256sum (lent_source source.entry) name.now)) }
+        ++ lines_text (lines_named Sha256sum (written source.entry) name.now)) }
 {
     text.push_str(value_of(FileFormat::Sha256sum, source))?;
     text.push_str("  ")?;
@@ -299,9 +298,9 @@ fn push_whole(text: &mut String, line: &str) -> Result<(), AllocError>
     text.push_str("\n")
 }
 
-fn push_aria2(text: &mut String, source: PickedSource<'_>, name: &str) -> Result<(), AllocError>
+fn push_aria2(text: &mut String, source: Source<'_>, name: &str) -> Result<(), AllocError>
     ensures { OnOk result (string_bytes text.new ≡ string_bytes text.old
-        ++ lines_text (lines_named Aria2 (lent_source source.entry) name.now)) }
+        ++ lines_text (lines_named Aria2 (written source.entry) name.now)) }
 {
     push_whole(text, url_of(source).unwrap_or(""))?;
     push_line(text, " out=", name)?;
@@ -319,11 +318,11 @@ fn push_aria2(text: &mut String, source: PickedSource<'_>, name: &str) -> Result
 fn push_named_lines(
     text: &mut String,
     format: FileFormat,
-    source: PickedSource<'_>,
+    source: Source<'_>,
     name: &str,
 ) -> Result<(), AllocError>
     ensures { OnOk result (string_bytes text.new ≡ string_bytes text.old
-        ++ lines_text (lines_named format (lent_source source.entry) name.now)) }
+        ++ lines_text (lines_named format (written source.entry) name.now)) }
 {
     match format {
         FileFormat::Sha256sum => push_sum(text, source, name),
@@ -337,10 +336,10 @@ fn push_lines(
     alloc: Global,
     text: &mut String,
     format: FileFormat,
-    source: PickedSource<'_>,
+    source: Source<'_>,
 ) -> Result<(), AllocError>
     ensures { OnOk result (string_bytes text.new ≡ string_bytes text.old
-        ++ lines_text (source_lines format (lent_source source.entry))) }
+        ++ lines_text (source_lines format (written source.entry))) }
 {
     let name = name_in(alloc, format, source)?;
     push_named_lines(text, format, source, name.as_deref().unwrap_or(""))

@@ -3,3 +3,4 @@ mod DoneLemmas
 mod LeftLemmas
 mod NeverMemory
 mod OnceLemmas
+mod TableLemmas

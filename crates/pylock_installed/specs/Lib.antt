@@ -5,3 +5,5 @@ pub mod Picked
 pub mod Steps
 pub mod Written
 pub mod Done
+pub mod Inner
+pub mod Words

@@ -1,6 +1,7 @@
 //! Why a list of what is installed is refused.
 
 ghost use Rattle.std.specs.Prelude.{◌≡◌};
+ghost use Rattle.pylock_installed.specs.Words.{installed_place, installed_word};
 ghost use Rattle.pylock_installed.specs.declared.error.InstalledError.TheVariants as error;
 
 use std::alloc::AllocError;
@@ -19,6 +20,31 @@ pub enum InstalledError {
     Twice(usize),
     /// Memory was refused.
     Memory,
+}
+
+impl InstalledError {
+    /// Its word: `json`, `shape`, `element` or `twice`. It takes no memory.
+    pub fn word(&self) -> &'static str
+        ensures { result.now ≡ installed_word self.now }
+    {
+        match self {
+            InstalledError::Json => "json",
+            InstalledError::Shape => "shape",
+            InstalledError::Element(_) => "element",
+            InstalledError::Twice(_) => "twice",
+            InstalledError::Memory => "memory",
+        }
+    }
+
+    /// The place of the element, counted from 1, where one is at fault. It takes no memory.
+    pub fn place(&self) -> Option<usize>
+        ensures { result ≡ installed_place self.now }
+    {
+        match self {
+            InstalledError::Element(place) | InstalledError::Twice(place) => Some(*place),
+            InstalledError::Json | InstalledError::Shape | InstalledError::Memory => None,
+        }
+    }
 }
 
 impl<E: Into<AllocError> + Drop> From<E> for InstalledError {

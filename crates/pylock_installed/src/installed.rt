@@ -1,9 +1,7 @@
 //! What is installed in an environment.
 
 ghost use Rattle.std.specs.Prelude.{◌≡◌};
-ghost use Rattle.std.specs.Option.{option_copied};
 ghost use Rattle.pytext.specs.Agreement.{Gives};
-ghost use Rattle.pylock_installed.specs.Project.{project_named};
 ghost use Rattle.pylock_installed.specs.Reading.{installed_of};
 
 use crate::error::InstalledError;
@@ -39,8 +37,8 @@ impl Installed {
     /// skipped. The refusals come in the order of `InstalledError`, those of elements in the order
     /// of the list.
     ///
-    /// Takes memory for the JSON value and for the texts of each project, and time for each pair of
-    /// projects.
+    /// Takes memory for the JSON value, for the texts of each project and for a table of the names.
+    /// The time is that of looking each name up in the table.
     pub fn read(alloc: Global, bytes: &[u8]) -> Result<Installed, InstalledError>
         ensures { Gives InstalledError.Memory (λ i. i) result (installed_of bytes.now) }
     {
@@ -54,23 +52,4 @@ impl Installed {
     {
         self.projects.as_slice()
     }
-
-    /// The project of a name in normal form (PEP 503), if one is installed. It takes no memory, and
-    /// time for each project.
-    pub fn project(&self, name: &str) -> Option<&Project>
-        ensures { option_copied result ≡ project_named name.now self.now }
-    {
-        project_named(self.projects(), name)
-    }
-}
-
-fn project_named<'a>(projects: &'a [Project], name: &str) -> Option<&'a Project>
-    ensures { option_copied result ≡ project_named name.now projects.now }
-{
-    for project in projects {
-        if name == project.name() {
-            return Some(project);
-        }
-    }
-    None
 }

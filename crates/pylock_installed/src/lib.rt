@@ -8,8 +8,8 @@
 //!
 //! ```rust
 //! let mut steps = Vec::new(alloc);
-//! push_pick_steps(alloc, &mut steps, session, plan.picks(), installed)?;
-//! push_other_steps(&mut steps, session, plan.picks(), installed, is_exact)?;
+//! push_pick_steps(alloc, &mut steps, session, plan.picks(), &projects)?;
+//! push_other_steps(&mut steps, &planned, installed.projects(), is_exact)?;
 //! Ok(steps)
 //! ```
 #![tactic(auto)]
@@ -24,6 +24,7 @@ mod picked;
 mod project;
 mod reading;
 mod step;
+mod tables;
 
 pub use document::steps_document;
 pub use error::InstalledError;

@@ -1,19 +1,21 @@
 //! The list of what is installed, from its text.
 
-ghost use Rattle.std.specs.Prelude.{◌≡◌, [], Some};
-ghost use Rattle.std.specs.List.{list_any};
+ghost use Rattle.std.specs.Prelude.{◌≡◌, ◌||◌, ℕ, [], IfOk, List, OnOk, Some, not, string_bytes};
+ghost use Rattle.std.specs.BTreeSet.{contains_text};
 ghost use Rattle.std.specs.Option.{option_copied};
+ghost use Rattle.std.specs.Str.{bytes_eq};
 ghost use Rattle.serde_json.specs.View.{items_view, view as data_of};
 ghost use Rattle.pytext.specs.Agreement.{Gives};
 ghost use Rattle.pylock_readers.specs.Text.{utf8_text};
-ghost use Rattle.pylock_installed.specs.Project.{is_named};
+ghost use Rattle.pylock_installed.specs.Inner.Tables.{AreNames};
 ghost use Rattle.pylock_installed.specs.Reading.{elements_in, installed_of, projects_in};
 ghost use Rattle.pylock_installed.specs.Reading.{value_of, with_element, with_elements};
 
 use crate::error::InstalledError;
 use crate::project::{Project, project_in};
 use serde_json::Value;
-use std::alloc::Global;
+use std::alloc::{AllocError, Global};
+use std::collections::BTreeSet;
 
 /// The forms that a list of what is installed may have.
 #[derive(Clone, Copy)]
@@ -22,6 +24,13 @@ pub(crate) enum Form {
     List,
     /// What `pip inspect` prints.
     Inspect,
+}
+
+/// What is read so far: the projects, and their names, by which one that stands twice is found.
+#[derive(Drop)]
+struct Listed {
+    projects: Vec<Project>,
+    names: BTreeSet<String>,
 }
 
 /// The projects that the bytes list.
@@ -82,10 +91,14 @@ fn read_elements(
     ensures { Gives InstalledError.Memory (λ v. v.items) result
         (with_elements form 1 [] (items_view elements.now)) }
 {
-    let mut projects = Vec::with_capacity(alloc, elements.len())?;
+    let mut listed = Listed {
+        projects: Vec::with_capacity(alloc, elements.len())?,
+        names: BTreeSet::new(alloc),
+    };
     for (place, element) in elements.iter().enumerate() {
-        push_element(alloc, &mut projects, form, place + 1, element)?;
+        push_element(alloc, &mut listed, form, place + 1, element)?;
     }
+    let Listed { projects, names: _ } = listed;
     Ok(projects)
 }
 
@@ -93,25 +106,30 @@ fn read_elements(
 #[tactic(auto, unfolding(crate::specs::Reading::with_element))]
 fn push_element(
     alloc: Global,
-    projects: &mut Vec<Project>,
+    listed: &mut Listed,
     form: Form,
     place: usize,
     element: &Value,
 ) -> Result<(), InstalledError>
-    ensures { Gives InstalledError.Memory (λ _. projects.new.items) result
-        (with_element form place projects.old.items (data_of element.now)) }
+    requires { AreNames listed.old.names listed.old.projects.items }
+    ensures pushed { Gives InstalledError.Memory (λ _. listed.new.projects.items) result
+        (with_element form place listed.old.projects.items (data_of element.now)) }
+    ensures names { OnOk result (AreNames listed.new.names listed.new.projects.items) }
 {
     let project = project_in(alloc, form, element)?.ok_or(InstalledError::Element(place))?;
-    if has_project(projects, project.name()) {
+    let name = String::from_str(alloc, project.name())?;
+    if !add_text(&mut listed.names, name)? {
         return Err(InstalledError::Twice(place));
     }
-    projects.push(project)?;
+    listed.projects.push(project)?;
     Ok(())
 }
 
-/// Whether one of the projects has the name, which is in normal form.
-fn has_project(projects: &[Project], name: &str) -> bool
-    ensures { result ≡ list_any (is_named name.now) projects.now }
+/// Adds the name to the set, and tells whether it is new there.
+fn add_text(names: &mut BTreeSet<String>, name: String) -> Result<bool, AllocError>
+    ensures new { IfOk result (λ new. new ≡ not (contains_text names.old (string_bytes name))) }
+    ensures added { OnOk result ((other : List ℕ) → contains_text names.new other
+        ≡ (bytes_eq (string_bytes name) other || contains_text names.old other)) }
 {
-    projects.iter().any(|project| name == project.name())
+    Ok(names.insert(name)?)
 }

@@ -3,16 +3,19 @@
 ghost use Rattle.std.specs.Prelude.{◌≡◌, ◌++◌, IfOk, OnOk, filter, map, not};
 ghost use Rattle.std.specs.List.{flat_map};
 ghost use Rattle.std.specs.Option.{option_copied};
-ghost use Rattle.pylock_installed.specs.Steps.{is_done, is_keep, is_pick_of, is_planned, is_tool};
-ghost use Rattle.pylock_installed.specs.Steps.{lent_step, other_step, pick_steps, step_for, steps};
+ghost use Rattle.pylock_installed.specs.Inner.Tables.{found, found_steps, has};
+ghost use Rattle.pylock_installed.specs.Steps.{is_done, is_keep, is_tool, lent_step, other_step};
+ghost use Rattle.pylock_installed.specs.Steps.{step_for, steps};
 ghost use Rattle.pylock_installed.specs.Written.{step_from, step_id, step_name, step_version};
 ghost use Rattle.pylock_installed.specs.Written.{step_word};
 
 use crate::installed::Installed;
 use crate::picked::is_picked;
 use crate::project::Project;
+use crate::tables::{by_name, found, has, planned_names};
 use pylock_core::{Entry, Pick, Plan, Session};
 use std::alloc::{AllocError, Global};
+use std::collections::{BTreeMap, BTreeSet};
 
 /// What is done with an entry of a plan or with an installed project, which is lent.
 #[derive(Clone, Copy)]
@@ -114,9 +117,8 @@ impl<'a> Step<'a> {
 /// index or of a URL for a wheel, an sdist or an archive, whose hashes of SHA-256 don't differ; a
 /// checkout of the commit; a directory that is installed in place, or isn't, as the entry says.
 ///
-/// Takes memory for the steps and for two versions at a time, and time for each pair of a pick and
-/// a project.
-#[tactic(auto, unfolding(crate::specs::Steps::steps))]
+/// Takes memory for the steps, for tables of the names and for two versions at a time. The time is
+/// that of looking each name up in a table.
 pub fn steps<'a>(
     alloc: Global,
     session: &Session,
@@ -127,9 +129,11 @@ pub fn steps<'a>(
     ensures { IfOk result (λ list. map lent_step list.items
         ≡ steps session.now.state plan.now installed.now is_exact) }
 {
+    let projects = by_name(alloc, installed.projects())?;
+    let planned = planned_names(alloc, session, plan.picks())?;
     let mut steps = Vec::new(alloc);
-    push_pick_steps(alloc, &mut steps, session, plan.picks(), installed)?;
-    push_other_steps(&mut steps, session, plan.picks(), installed, is_exact)?;
+    push_pick_steps(alloc, &mut steps, session, plan.picks(), &projects)?;
+    push_other_steps(&mut steps, &planned, installed.projects(), is_exact)?;
     Ok(steps)
 }
 
@@ -140,19 +144,19 @@ pub fn is_done(steps: &[Step<'_>]) -> bool
     steps.iter().all(|step| step.is_keep())
 }
 
-/// Adds a step for each pick.
+/// Adds a step for each pick, where the table has the projects.
 fn push_pick_steps<'a>(
     alloc: Global,
     steps: &mut Vec<Step<'a>>,
     session: &Session,
     picks: &[Pick],
-    installed: &'a Installed,
+    projects: &BTreeMap<&'a str, &'a Project>,
 ) -> Result<(), AllocError>
     ensures { OnOk result (map lent_step steps.new.items ≡ map lent_step steps.old.items
-        ++ flat_map (pick_steps session.now.state installed.now) picks.now) }
+        ++ flat_map (found_steps session.now.state projects.now) picks.now) }
 {
     for pick in picks {
-        push_pick_step(alloc, steps, session, *pick, installed)?;
+        push_pick_step(alloc, steps, session, *pick, projects)?;
     }
     Ok(())
 }
@@ -163,13 +167,13 @@ fn push_pick_step<'a>(
     steps: &mut Vec<Step<'a>>,
     session: &Session,
     pick: Pick,
-    installed: &'a Installed,
+    projects: &BTreeMap<&'a str, &'a Project>,
 ) -> Result<(), AllocError>
     ensures { OnOk result (map lent_step steps.new.items ≡ map lent_step steps.old.items
-        ++ pick_steps session.now.state installed.now pick) }
+        ++ found_steps session.now.state projects.now pick) }
 {
     if let Some(entry) = session.entry(pick.id) {
-        let project = installed.project(entry.name());
+        let project = found(projects, entry.name());
         steps.push(step_for(alloc, pick, entry, project)?)?;
     }
     Ok(())
@@ -198,21 +202,18 @@ fn step_for<'a>(
     }
 }
 
-/// Adds a step for each project that the plan doesn't name.
+/// Adds a step for each project that the plan, which has these names, doesn't name.
 fn push_other_steps<'a>(
     steps: &mut Vec<Step<'a>>,
-    session: &Session,
-    picks: &[Pick],
-    installed: &'a Installed,
+    planned: &BTreeSet<&str>,
+    projects: &'a [Project],
     is_exact: bool,
 ) -> Result<(), AllocError>
     ensures { OnOk result (map lent_step steps.new.items ≡ map lent_step steps.old.items
-        ++ map (other_step is_exact)
-        (filter (λ p. not (is_planned session.now.state picks.now p)) installed.now)) }
+        ++ map (other_step is_exact) (filter (λ p. not (has planned.now p.name)) projects.now)) }
 {
-    let projects = installed.projects();
     for project in projects {
-        if !is_planned(session, picks, project) {
+        if !has(planned, project.name()) {
             steps.push(other_step(project, is_exact))?;
         }
     }
@@ -236,21 +237,4 @@ fn is_tool(project: &Project) -> bool
 {
     let name = project.name();
     name == "pip" || name == "setuptools" || name == "wheel"
-}
-
-/// Whether the entry of one of the picks has the project's name.
-fn is_planned(session: &Session, picks: &[Pick], project: &Project) -> bool
-    ensures { result ≡ is_planned session.now.state picks.now project.now }
-{
-    picks.iter().any(|pick| is_pick_of(session, project, *pick))
-}
-
-/// Whether the pick's entry has the project's name.
-fn is_pick_of(session: &Session, project: &Project, pick: Pick) -> bool
-    ensures { result ≡ is_pick_of session.now.state project.now pick }
-{
-    match session.entry(pick.id) {
-        Some(entry) => entry.name() == project.name(),
-        None => false,
-    }
 }

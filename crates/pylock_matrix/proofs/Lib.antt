@@ -1,5 +1,7 @@
 pub mod CellLemmas
 pub mod DefaultsLemmas
 pub mod EditLemmas
+pub mod FilesLemmas
 pub mod MovingLemmas
+pub mod TakenLemmas
 pub mod TextLemmas

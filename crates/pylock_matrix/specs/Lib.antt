@@ -1,6 +1,7 @@
 pub mod Cell
 pub mod Defaults
 pub mod Document
+pub mod Files
 pub mod Inner
 pub mod Moving
 pub mod Outcome

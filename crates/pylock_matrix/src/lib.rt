@@ -15,16 +15,19 @@
 mod cell;
 mod defaults;
 mod document;
+mod files;
 pub mod laws;
 mod moving;
 mod outcome;
 mod row;
 mod setting;
+mod taken;
 mod text;
 
 pub use cell::{Cell, CellError, cells, words};
 pub use defaults::{default_platforms, default_pythons};
 pub use document::matrix_document;
+pub use files::rows_and_files;
 pub use moving::move_to;
 pub use outcome::{Built, Outcome, outcome_of};
 pub use row::{Row, rows};

@@ -5,3 +5,4 @@ pub mod ReplyLemmas
 pub mod SafeLemmas
 pub mod MatrixLemmas
 pub mod PlanLemmas
+pub mod AuditLemmas

@@ -11,13 +11,20 @@ use Rattle.pytext.specs.Results.{◌>>=◌}
 use Rattle.pyver_core.specs.Name.{is_name}
 use Rattle.pywheel_core.specs.Target.Tags.{target_tags}
 use Rattle.pywheel_core.specs.Target.Value.{TargetValue}
+use Rattle.pylock_command.specs.declared.form.Form.{Form}
+use Rattle.pylock_command.specs.declared.form.Form.TheVariants.{Lines, Json}
 use Rattle.pylock_command.specs.declared.option.PlanOption.{PlanOption}
 use Rattle.pylock_command.specs.declared.option.PlanOption.TheVariants as option
+use Rattle.pylock_command.specs.declared.task.FilesOutput.{FilesOutput}
+use Rattle.pylock_command.specs.declared.task.FilesOutput.TheVariants.{Shown, Tool}
+use Rattle.pylock_command.specs.declared.task.MatrixOutput.{MatrixOutput}
+use Rattle.pylock_command.specs.declared.task.MatrixOutput.TheVariants.{Files, Rows}
 use Rattle.pylock_command.specs.declared.task.MatrixQuestion.{MatrixQuestion}
 use Rattle.pylock_readers.specs.Entry.{EntryValue}
 use Rattle.pylock_readers.specs.Lock.{LockValue}
 use Rattle.pylock_readers.specs.Target.{target_environment}
 use Rattle.pylock_core.specs.Session.State.{State, after_edits, first}
+use Rattle.pylock_core.specs.declared.answer.Pick.{Pick}
 use Rattle.pylock_core.specs.declared.edit.Edit.{Edit}
 use Rattle.pylock_core.specs.declared.edit.EditError.{EditError}
 use Rattle.pylock_core.specs.declared.edit.NameChange.TheVariants.{AddExtra, DropExtra, AddGroup, DropGroup}
@@ -26,9 +33,16 @@ use Rattle.pylock_core.specs.declared.edit.Policy.TheVariants.{Wheel, Source}
 use Rattle.pylock_matrix.proofs.EditLemmas.{edits_moved}
 use Rattle.pylock_matrix.proofs.MovingLemmas.{first_placed, placed_has}
 use Rattle.pylock_matrix.specs.Cell.{CellValue}
-use Rattle.pylock_matrix.specs.Moving.{HasVariables, first_on, is_movable, placed, placed_if, settings_of}
+use Rattle.pylock_matrix.specs.Files.{files_on}
+use Rattle.pylock_matrix.specs.Row.{row_of}
+use Rattle.pylock_matrix.specs.declared.row.Row.{Row}
+use Rattle.pylock_run.specs.Report.{Report}
+use Rattle.pylock_run.specs.Report.Print.{Prints}
+use Rattle.pylock_run.specs.Stream.{SinkValue}
+use Rattle.pylock_run.specs.declared.report.fault.RunFault.{RunFault}
+use Rattle.pylock_matrix.specs.Moving.{HasVariables, first_on, is_movable, placed, placed_if, settings_of, unmoved}
 use Rattle.pylock_matrix.specs.declared.setting.Setting.{Setting}
-use Rattle.pylock_program.specs.Matrix.{asked_settings, begun, option_settings}
+use Rattle.pylock_program.specs.Matrix.{asked_settings, begun, begun_report, option_settings, picked_report, rows_from, rows_report, rows_status, targets_report}
 use Rattle.pylock_program.specs.Opening.{chosen_state}
 use Rattle.pylock_program.specs.PlanOptions.{after_option, after_options, edit_of_name, edits_of, name_edit, policies, set_edits, setting_of}
 use Rattle.pylock_program.specs.declared.options.NameEdit.{NameEdit}
@@ -185,3 +199,44 @@ pub chosen_so : {options options' : List PlanOption} {state state' : State} {mad
     → chosen_state options state ≡ made → chosen_state options' state' ≡ made
 chosen_so {options} {options'} {state} {state'} same also chosen =
     sym (ap (λ (os : List PlanOption). chosen_state os state) same ∙ ap (chosen_state options') also) ∙ chosen
+
+-- ---- files
+
+-- what is printed of files reads no more of a state than its entries
+pub picked_same : (output : FilesOutput) (status : ℕ) (a b : State) (picks : List Pick) → unmoved a ≡ unmoved b
+    → picked_report output status a picks ≡ picked_report output status b picks
+picked_same (Shown Lines) status a b picks same = ap (λ (s : State). picked_report (Shown Lines) status s picks) same
+picked_same (Shown Json) status a b picks same = ap (λ (s : State). picked_report (Shown Json) status s picks) same
+picked_same (Tool format base) status a b picks same = ap (λ (s : State). picked_report (Tool format base) status s picks) same
+
+-- what is printed of the state on each target is the report on the question
+pub files_printed : (asked : MatrixQuestion) (output : FilesOutput) (settings : List Setting) (state last : State) (cells : List CellValue) (rows : List Row) (picks : List Pick)
+    (status : ℕ) (sink sink' : SinkValue) (result : Result ℕ RunFault)
+    → asked.output ≡ Files output → settings ≡ asked_settings asked.options.items → rows ≡ map (row_of settings state) cells → picks ≡ files_on settings state cells
+    → status ≡ rows_status asked.no_build rows → unmoved last ≡ unmoved state
+    → Prints (picked_report output status last picks) sink sink' result → Prints (begun_report asked (state, cells)) sink sink' result
+files_printed asked output settings state last cells rows picks status sink sink' result is set rowed picked told stays prints =
+    let known : status ≡ rows_status asked.no_build (rows_from asked (state, cells)) =
+    told ∙ ap (rows_status asked.no_build) (rowed ∙ ap (λ (ss : List Setting). map (row_of ss state) cells) set) in
+    let report : picked_report output status last picks ≡ begun_report asked (state, cells) =
+    picked_same output status last state picks stays
+    ∙ ap (λ (n : ℕ). picked_report output n state picks) known
+    ∙ ap (λ (ps : List Pick). picked_report output (rows_status asked.no_build (rows_from asked (state, cells))) state ps)
+    (picked ∙ ap (λ (ss : List Setting). files_on ss state cells) set)
+    ∙ ap (λ (o : MatrixOutput). targets_report o (rows_status asked.no_build (rows_from asked (state, cells))) asked (state, cells)) (sym is) in
+    subst (λ (r : Report). Prints r sink sink' result) report prints
+
+pub rows_printed : (asked : MatrixQuestion) (form : Form) (settings : List Setting) (state : State) (cells : List CellValue) (rows : List Row)
+    (status : ℕ) (sink sink' : SinkValue) (result : Result ℕ RunFault)
+    → asked.output ≡ Rows form → settings ≡ asked_settings asked.options.items → rows ≡ map (row_of settings state) cells
+    → status ≡ rows_status asked.no_build rows
+    → Prints (rows_report form status rows) sink sink' result → Prints (begun_report asked (state, cells)) sink sink' result
+rows_printed asked form settings state cells rows status sink sink' result is set rowed told prints =
+    let made : rows ≡ rows_from asked (state, cells) = rowed ∙ ap (λ (ss : List Setting). map (row_of ss state) cells) set in
+    let report : rows_report form status rows ≡ begun_report asked (state, cells) =
+    ap (λ (n : ℕ). rows_report form n rows) (told ∙ ap (rows_status asked.no_build) made)
+    ∙ ap (λ (rs : List Row). rows_report form (rows_status asked.no_build (rows_from asked (state, cells))) rs) made
+    ∙ ap (λ (o : MatrixOutput). targets_report o (rows_status asked.no_build (rows_from asked (state, cells))) asked (state, cells)) (sym is) in
+    subst (λ (r : Report). Prints r sink sink' result) report prints
+
+pub ruleset printed = (files_printed, rows_printed)

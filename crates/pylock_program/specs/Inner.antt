@@ -1,4 +1,5 @@
 -- What serves the contracts of private functions alone.
 pub mod Answer
+pub mod Audit
 pub mod Chosen
 pub mod Machine

@@ -3,10 +3,14 @@ pub mod Findings
 pub mod Refusal
 pub mod Opening
 pub mod Reply
+pub mod Audit
 pub mod PlanOptions
 pub mod Show
 pub mod Diff
 pub mod Matrix
+pub mod Bill
+pub mod Status
+pub mod Summary
 pub mod Exports
 pub mod Paths
 pub mod Program

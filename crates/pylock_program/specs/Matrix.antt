@@ -1,4 +1,5 @@
--- What `matrix` prints: for each target a row, which tells what `plan` answers there.
+-- What `matrix` prints: for each target a row, which tells what `plan` answers there; or the files
+-- that the targets take.
 use Rattle.std.specs.Prelude.{ℕ, Bool, true, false, if◌then◌else◌, List, [], ◌∷◌, map}
 use Rattle.std.specs.Prelude.{Option, Some, None, Result, Ok, Err}
 use Rattle.std.specs.Borrow.{Bor}
@@ -11,11 +12,18 @@ use Rattle.pylock_command.specs.declared.form.Form.{Form}
 use Rattle.pylock_command.specs.declared.form.Form.TheVariants.{Lines, Json}
 use Rattle.pylock_command.specs.declared.option.PlanOption.{PlanOption}
 use Rattle.pylock_command.specs.declared.option.PlanOption.TheVariants as option
+use Rattle.pylock_command.specs.declared.task.FilesOutput.{FilesOutput}
+use Rattle.pylock_command.specs.declared.task.FilesOutput.TheVariants.{Shown, Tool}
+use Rattle.pylock_command.specs.declared.task.MatrixOutput.{MatrixOutput}
+use Rattle.pylock_command.specs.declared.task.MatrixOutput.TheVariants.{Files, Rows}
 use Rattle.pylock_command.specs.declared.task.MatrixQuestion.{MatrixQuestion}
 use Rattle.pylock_core.specs.Session.State.{State}
+use Rattle.pylock_core.specs.declared.answer.Pick.{Pick}
+use Rattle.pylock_documents.specs.Documents.{picked_rows}
 use Rattle.pylock_matrix.specs.Cell.{CellValue, cells_of, words_in}
 use Rattle.pylock_matrix.specs.Defaults.{default_platforms, default_pythons}
 use Rattle.pylock_matrix.specs.Document.{matrix_members}
+use Rattle.pylock_matrix.specs.Files.{files_on}
 use Rattle.pylock_matrix.specs.Moving.{first_on}
 use Rattle.pylock_matrix.specs.Row.{row_of}
 use Rattle.pylock_matrix.specs.Text.{rows_text}
@@ -34,9 +42,12 @@ use Rattle.pylock_readers.specs.declared.error.EnvError.TheVariants as env
 use Rattle.pylock_readers.specs.declared.error.LockError.{LockError}
 use Rattle.pylock_run.specs.Report.{Report}
 use Rattle.pylock_run.specs.declared.report.opening.OpenError.TheVariants.{Environment, Lock}
+use Rattle.pylock_program.specs.Exports.{picks_exported}
 use Rattle.pylock_program.specs.Opening.{chosen_state, found_by, opened_by}
 use Rattle.pylock_program.specs.PlanOptions.{setting_of}
 use Rattle.pylock_program.specs.Refusal.{out_of_memory, report_or_refusal}
+use Rattle.pylock_program.specs.Reply.{files_form}
+use Rattle.pylock_program.specs.Text.Files.{picked_text}
 use Rattle.pylock_program.specs.Text.Json.{json_text}
 use Rattle.pylock_program.specs.declared.opening.Unopened.{Unopened}
 use Rattle.pylock_program.specs.declared.opening.Unopened.TheVariants.{Findings, Refused}
@@ -117,6 +128,10 @@ opened_matrix asked bytes = do
 abbrev pub rows_from : MatrixQuestion → State × List CellValue → List Row
 rows_from asked begun = map (row_of (asked_settings asked.options.items) begun.0) begun.1
 
+-- the files that the targets take, each once, from the same state
+abbrev pub files_from : MatrixQuestion → State × List CellValue → List Pick
+files_from asked begun = files_on (asked_settings asked.options.items) begun.0 begun.1
+
 -- ---- beside `plan`
 
 -- the state that `plan` opens with the words of a target and the same options
@@ -145,13 +160,37 @@ abbrev pub rows_shown : Form → List Row → List ℕ
 rows_shown Lines rows = rows_text rows
 rows_shown Json rows = json_text (matrix_members rows)
 
-abbrev pub rows_report : MatrixQuestion → List Row → Report
-rows_report asked rows =
-    record { text = rows_shown asked.form rows; status = rows_status asked.no_build rows }
+abbrev pub rows_report : Form → ℕ → List Row → Report
+rows_report form status rows = record { text = rows_shown form rows; status = status }
+
+-- the files that picks name, as `files` prints those of a lock
+abbrev pub picked_shown : Form → State → List Pick → List ℕ
+picked_shown Lines state picks = picked_text state picks
+picked_shown Json state picks = json_text (picked_rows state picks)
+
+abbrev pub picked_report : FilesOutput → ℕ → State → List Pick → Report
+picked_report (Shown form) status state picks =
+    record { text = picked_shown form state picks; status = status }
+picked_report (Tool format base) status state picks =
+    picks_exported status format base state picks
+
+-- whatever is printed, the rows give the status
+abbrev pub targets_report : MatrixOutput → ℕ → MatrixQuestion → State × List CellValue → Report
+targets_report (Rows form) status asked begun = rows_report form status (rows_from asked begun)
+targets_report (Files output) status asked begun =
+    picked_report output status begun.0 (files_from asked begun)
+
+abbrev pub begun_report : MatrixQuestion → State × List CellValue → Report
+begun_report asked begun =
+    targets_report asked.output (rows_status asked.no_build (rows_from asked begun)) asked begun
+
+-- the form in which a refusal is printed; none where the files would be for another tool
+abbrev pub matrix_form : MatrixOutput → Option Form
+matrix_form (Rows form) = Some form
+matrix_form (Files output) = files_form output
 
 -- the report on a question, from what is told of a refusal, and from the bytes of its lock
 abbrev pub matrix_report : MatrixQuestion → Option DiagnosticValue → List ℕ → Report
 matrix_report asked diagnostic bytes =
-    report_or_refusal (Some asked.form) diagnostic
-    (λ begun. rows_report asked (rows_from asked begun))
+    report_or_refusal (matrix_form asked.output) diagnostic (begun_report asked)
     (opened_matrix asked bytes)

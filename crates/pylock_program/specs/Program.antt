@@ -5,17 +5,21 @@ use Rattle.std.specs.Prelude.{Result, Ok, Err}
 use Rattle.std.specs.Result.{result_map_both}
 use Rattle.pylock_command.specs.declared.form.Form.{Form}
 use Rattle.pylock_command.specs.declared.machine.Machine.{Machine}
+use Rattle.pylock_command.specs.declared.task.AuditQuestion.{AuditQuestion}
 use Rattle.pylock_command.specs.declared.task.Installation.{Installation}
 use Rattle.pylock_command.specs.declared.task.Task.{Task}
 use Rattle.pylock_command.specs.declared.task.Task.TheVariants as task
+use Rattle.pylock_program.specs.Audit.{PrintsAudit}
 use Rattle.pylock_program.specs.Diff.{locks_report, plans_report}
 use Rattle.pylock_program.specs.Matrix.{matrix_report}
 use Rattle.pylock_program.specs.Opening.{opened_by}
 use Rattle.pylock_program.specs.Paths.{IsMachineRead, IsReadAs}
 use Rattle.pylock_program.specs.Refusal.{PrintsTelling, refusal_report}
-use Rattle.pylock_program.specs.Reply.{audit_report, files_report, marker_report}
+use Rattle.pylock_program.specs.Reply.{files_report, marker_report}
 use Rattle.pylock_program.specs.Reply.{target_report, text_report}
 use Rattle.pylock_program.specs.Show.{question_report, run_shown}
+use Rattle.pylock_program.specs.Status.{status_report}
+use Rattle.pylock_program.specs.Summary.{summary_report}
 use Rattle.pylock_core.specs.Session.State.{State}
 use Rattle.pylock_messages.specs.Diagnostic.{DiagnosticValue}
 use Rattle.pylock_readers.specs.Environment.{EnvironmentRead}
@@ -134,6 +138,12 @@ abbrev pub Greets : Outcome
 Greets source source' sink sink' result =
     Replies greeting source source' sink sink' result × (result ≢ Err Memory)
 
+-- what is found in a lock is printed, and standard input isn't read
+abbrev pub Audits : AuditQuestion → List ℕ → Outcome
+Audits asked bytes source source' sink sink' result =
+    Tells (PrintsAudit asked.environments asked.form bytes sink sink') result
+    × (source' ≡ source)
+
 -- two locks are compared, or what they install on a machine
 abbrev pub Compares : Reads → Form → Option Installation → List ℕ → List ℕ → Outcome
 Compares gives form None old new =
@@ -142,8 +152,9 @@ Compares gives form (Some asked) old new = OpensMachine gives asked.machine
     (λ read. RepliesTelling
     (λ diagnostic. plans_report form diagnostic asked.options.items old new read))
 
--- What the program does with each task, by what reads of files may give. `select`, `plan` and
--- `explain` read the lock first, and then the environment.
+-- What the program does with each task, by what reads of files may give. `select`, `plan`,
+-- `explain` and `status` read the lock first, and then the environment; `status` then reads what is
+-- installed.
 abbrev pub Performs : Reads → Task → Outcome
 Performs gives task.Bare = Greets
 Performs gives (task.Show question) =
@@ -155,12 +166,17 @@ Performs gives (task.Select opening form) =
 Performs gives (task.Matrix asked) =
     Opens gives asked.lock.now
     (λ bytes. RepliesTelling (λ diagnostic. matrix_report asked diagnostic bytes))
+Performs gives (task.Status asked) =
+    Opens gives asked.opening.lock.now (λ lock. OpensMachine gives asked.opening.machine
+    (λ read. Opens gives asked.installed.now
+    (λ list. RepliesTelling (λ diagnostic. status_report asked diagnostic lock read list))))
+Performs gives (task.Summary lock form) =
+    Opens gives lock.now
+    (λ bytes. RepliesTelling (λ diagnostic. summary_report form diagnostic bytes))
 Performs gives (task.Files lock output) =
     Opens gives lock.now
     (λ bytes. RepliesTelling (λ diagnostic. files_report output diagnostic bytes))
-Performs gives (task.Audit lock form) =
-    Opens gives lock.now
-    (λ bytes. RepliesTelling (λ diagnostic. audit_report form diagnostic bytes))
+Performs gives (task.Audit asked) = Opens gives asked.lock.now (Audits asked)
 Performs gives (task.Diff asked) =
     Opens gives asked.old.now (λ old. Opens gives asked.new.now
     (λ new. Compares gives asked.form asked.installation old new))

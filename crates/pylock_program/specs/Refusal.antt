@@ -8,6 +8,8 @@ use Rattle.pylock_command.specs.PlanOptions.{option_words}
 use Rattle.pylock_command.specs.declared.option.PlanOption.{PlanOption}
 use Rattle.pylock_command.specs.declared.form.Form.{Form}
 use Rattle.pylock_command.specs.declared.form.Form.TheVariants.{Lines, Json}
+use Rattle.pylock_installed.specs.Words.{installed_words}
+use Rattle.pylock_installed.specs.declared.error.InstalledError.{InstalledError}
 use Rattle.pylock_messages.specs.Diagnostic.{DiagnosticValue}
 use Rattle.pylock_readers.specs.declared.error.LockError.{LockError}
 use Rattle.pylock_run.specs.Report.{Report}
@@ -55,6 +57,12 @@ side_printed Lines diagnostic side error = side_text (side_word side) error
 side_printed Json diagnostic side error =
     words_json (codes "lock" ∷ side_word side ∷ lock_words error) diagnostic
 
+-- a refused list of what is installed
+abbrev pub installed_printed : Form → Option DiagnosticValue → InstalledError → List ℕ
+installed_printed Lines diagnostic error = line_of (codes "installed") (installed_words error)
+installed_printed Json diagnostic error =
+    words_json (codes "installed" ∷ installed_words error) diagnostic
+
 -- an option that is refused: its word, without the dashes, and its text
 abbrev pub option_printed : Form → Option DiagnosticValue → PlanOption → List ℕ
 option_printed Lines diagnostic option =
@@ -64,6 +72,7 @@ option_printed Json diagnostic option = option_json option diagnostic
 abbrev pub cause_printed : Form → Option DiagnosticValue → Cause → List ℕ
 cause_printed form diagnostic (cause.Unopened unopened) = unopened_printed form diagnostic unopened
 cause_printed form diagnostic (cause.Side side error) = side_printed form diagnostic side error
+cause_printed form diagnostic (cause.Installed error) = installed_printed form diagnostic error
 cause_printed form diagnostic (cause.Option option) = option_printed form diagnostic option
 
 -- 1: an option is refused

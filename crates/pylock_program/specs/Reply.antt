@@ -281,12 +281,12 @@ files_shown Json entries = json_text (files_rows entries)
 
 abbrev pub entries_report : FilesOutput → List EntryValue → Report
 entries_report (output.Shown form) entries = answered (files_shown form entries)
-entries_report (output.Tool format) entries = entries_exported format entries
+entries_report (output.Tool format base) entries = entries_exported format base entries
 
 -- the form in which a refusal is printed; none where the sources would be for another tool
 abbrev pub files_form : FilesOutput → Option Form
 files_form (output.Shown form) = Some form
-files_form (output.Tool format) = None
+files_form (output.Tool format base) = None
 
 abbrev pub files_report : FilesOutput → Option DiagnosticValue → List ℕ → Report
 files_report output diagnostic bytes =

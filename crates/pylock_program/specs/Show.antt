@@ -14,6 +14,7 @@ use Rattle.pylock_documents.specs.Documents.{answer_rows, explain_rows}
 use Rattle.pylock_messages.specs.Diagnostic.{DiagnosticValue}
 use Rattle.pylock_run.specs.Report.{Report, Shown, as_lines, current_answer_text, is_plan}
 use Rattle.pylock_run.specs.declared.report.opening.OpenError.{OpenError}
+use Rattle.pylock_program.specs.Bill.{answer_billed}
 use Rattle.pylock_program.specs.Exports.{answer_exported}
 use Rattle.pylock_program.specs.Opening.{question_state}
 use Rattle.pylock_program.specs.Refusal.{refusal_printed, report_or_refusal}
@@ -61,22 +62,25 @@ run_shown Json = as_documents
 
 -- ---- questions
 
--- what is asked for of a state
-abbrev pub output_report : Output → State → Report
-output_report (output.View view form) state = view_report view form state
-output_report (output.Tool format) state = answer_exported format state (answer state)
+-- what is asked for of a state that the bytes of a lock gave
+abbrev pub output_report : Output → List ℕ → State → Report
+output_report (output.View view form) lock state = view_report view form state
+output_report (output.Tool format base) lock state =
+    answer_exported format base state (answer state)
+output_report (output.Bill format) lock state = answer_billed format lock state (answer state)
 
 -- the form in which a refusal is printed; none where the answer would be for another tool
 abbrev pub output_form : Output → Option Form
 output_form (output.View view form) = Some form
-output_form (output.Tool format) = None
+output_form (output.Tool format base) = None
+output_form (output.Bill format) = None
 
 -- The report on a question, from what is told of a refusal, from the bytes of its lock and from its
 -- environment as it was read.
 abbrev pub question_report : Question → Option DiagnosticValue → List ℕ → EnvironmentRead → Report
 question_report question diagnostic lock read =
-    report_or_refusal (output_form question.output) diagnostic (output_report question.output)
-    (question_state question lock read)
+    report_or_refusal (output_form question.output) diagnostic
+    (output_report question.output lock) (question_state question lock read)
 
 -- the same question with or without `--strict`
 abbrev pub with_strict : Bool → Question → Question

@@ -5,3 +5,4 @@ pub mod Explain
 pub mod Files
 pub mod Json
 pub mod Safe
+pub mod Summary

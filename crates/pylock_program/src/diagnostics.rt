@@ -3,6 +3,7 @@
 pub(crate) mod expected;
 pub(crate) mod export;
 pub(crate) mod fault;
+pub(crate) mod matrix;
 pub(crate) mod options;
 pub(crate) mod refusal;
 

@@ -8,6 +8,8 @@
 //! ```
 #![tactic(auto)]
 
+mod audit;
+mod bill;
 mod diagnostics;
 mod diff;
 mod export;
@@ -25,6 +27,8 @@ mod refusal;
 mod reply;
 mod select;
 mod show;
+mod status;
+mod summary;
 mod text;
 
 pub use failure::{Failure, words_failure};

@@ -2,27 +2,32 @@
 
 ghost use Rattle.std.specs.Prelude.{◌≡◌, ◌++◌, IfOk, OnOk};
 ghost use Rattle.pylock_matrix.specs.Moving.{HasVariables, first_on};
-ghost use Rattle.pylock_program.specs.Matrix.{asked_cells, asked_settings, begun, cell_cause};
-ghost use Rattle.pylock_program.specs.Matrix.{is_met, lock_by, matrix_report, opened_matrix};
-ghost use Rattle.pylock_program.specs.Matrix.{option_settings, refused_as, rows_from};
-ghost use Rattle.pylock_program.specs.Matrix.{rows_report, rows_shown, rows_status};
+ghost use Rattle.pylock_program.specs.Matrix.{asked_cells, asked_settings, begun, begun_report};
+ghost use Rattle.pylock_program.specs.Matrix.{cell_cause, is_met, lock_by, matrix_form};
+ghost use Rattle.pylock_program.specs.Matrix.{matrix_report, opened_matrix, option_settings};
+ghost use Rattle.pylock_program.specs.Matrix.{refused_as, rows_report, rows_shown, rows_status};
 ghost use Rattle.pylock_program.specs.Program.{Opens, RepliesTelling};
 ghost use Rattle.pylock_program.specs.Refusal.{GivesOr, PrintsTelling};
 ghost use Rattle.pylock_run.specs.Report.Print.{Prints};
 
+mod picked;
+
+use crate::diagnostics::matrix::tell_unmet;
 use crate::failure::{Failure, program_end};
 use crate::file::{FileBytes, MachineInput, read_bytes};
 use crate::host::{Host, Outputs};
+use crate::matrix::picked::write_picked;
 use crate::opening::{Unopened, choose};
 use crate::options::setting_of;
 use crate::refusal::{Cause, Refusal, write_refusal};
+use crate::reply::files_form;
 use pylock_audit::{StrictError, read_strict};
-use pylock_command::{Form, MatrixQuestion, PlanOption, TargetWords};
+use pylock_command::{Form, MatrixOutput, MatrixQuestion, PlanOption, TargetWords};
 use pylock_core::{EnvError, Lock, LockError, Session};
 use pylock_documents::push_document;
 use pylock_matrix::{
     Cell, CellError, Outcome, Row, Setting, cells, default_platforms, default_pythons,
-    matrix_document, push_rows, rows, words,
+    matrix_document, push_rows, rows, rows_and_files, words,
 };
 use pylock_readers::target_environment;
 use pylock_run::{Files, RunFault, Sink, Source, print};
@@ -45,11 +50,13 @@ pub(crate) fn show_matrix<F: Files, R: Source, W: Sink, N: Sink>(
     program_end(write_matrix(alloc, asked, &file, &mut host.outputs))
 }
 
-/// Writes a row for each target, and answers the status: 0 where each has a plan, of which nothing
-/// is built where that counts; 1 where one has none, or an option is refused; 2 where the lock or
-/// a word of the targets is refused.
+/// Writes a row for each target, or the files that the targets take, and answers the status: 0
+/// where each has a plan, of which nothing is built where that counts; 1 where one has none, or an
+/// option is refused, or a form can't hold the files; 2 where the lock or a word of the targets is
+/// refused.
 ///
-/// It takes memory for one session, which is moved from target to target, and for the rows.
+/// It takes memory for one session, which is moved from target to target, and for the rows and the
+/// files.
 #[tactic(auto, using(crate::proofs::OpeningLemmas::refused))]
 fn write_matrix<W: Sink, N: Sink>(
     alloc: Global,
@@ -64,13 +71,13 @@ fn write_matrix<W: Sink, N: Sink>(
     match open_matrix(alloc, asked, file) {
         Ok((session, cells)) => {
             let mut session = session;
-            let end = write_moved(alloc, asked, &mut session, cells, &mut outputs.writer);
+            let end = write_moved(alloc, asked, &mut session, cells, outputs);
             if outputs.ends_process {
                 mem::forget(session);
             }
             end
         }
-        Err(refusal) => write_refusal(alloc, Some(asked.form), refusal, outputs),
+        Err(refusal) => write_refusal(alloc, matrix_form(asked.output), refusal, outputs),
     }
 }
 
@@ -177,23 +184,59 @@ fn start_on(alloc: Global, lock: Lock, target: &Target) -> Result<Session, Alloc
     Session::start(alloc, lock, environment, tags)
 }
 
-/// Writes the row of each target, to which the session is moved one after another.
-fn write_moved<W: Sink>(
+/// The form in which a refusal is printed; none where the files would be for another tool.
+fn matrix_form(output: MatrixOutput) -> Option<Form>
+    ensures { result ≡ matrix_form output }
+{
+    match output {
+        MatrixOutput::Rows(form) => Some(form),
+        MatrixOutput::Files(output) => files_form(output),
+    }
+}
+
+/// Writes what is asked for of the targets, to which the session is moved one after another.
+#[tactic(auto, using(crate::proofs::MatrixLemmas::printed))]
+fn write_moved<W: Sink, N: Sink>(
     alloc: Global,
     asked: &MatrixQuestion<'_>,
     session: &mut Session,
     cells: Vec<Cell>,
-    writer: &mut W,
+    outputs: &mut Outputs<W, N>,
 ) -> Result<u8, RunFault>
     requires { HasVariables session.old.state }
-    ensures { Prints (rows_report asked.now (rows_from asked.now (session.old.state, cells.items)))
-        (W.value writer.old) (W.value writer.new) result }
+    ensures { Prints (begun_report asked.now (session.old.state, cells.items))
+        (W.value outputs.old.writer) (W.value outputs.new.writer) result }
 {
     let settings = settings_of(alloc, &asked.options)?;
-    let rows = rows(alloc, session, cells, &settings)?;
+    match asked.output {
+        MatrixOutput::Rows(form) => {
+            let rows = rows(alloc, session, cells, &settings)?;
+            let status = rows_status(asked.no_build, &rows);
+            write_rows(alloc, form, &rows, status, &mut outputs.writer)
+        }
+        MatrixOutput::Files(output) => {
+            let (rows, picks) = rows_and_files(alloc, session, cells, &settings)?;
+            let status = rows_status(asked.no_build, &rows);
+            tell_unmet(alloc, &mut outputs.diagnostics, asked.no_build, &rows);
+            write_picked(alloc, output, session, picks, status, outputs)
+        }
+    }
+}
+
+/// Writes the rows in a form, and answers this status.
+fn write_rows<W: Sink>(
+    alloc: Global,
+    form: Form,
+    rows: &[Row],
+    status: u8,
+    writer: &mut W,
+) -> Result<u8, RunFault>
+    ensures { Prints (rows_report form status rows.now)
+        (W.value writer.old) (W.value writer.new) result }
+{
     let mut out = Vec::new(alloc);
-    push_shown(alloc, &mut out, asked.form, &rows)?;
-    print(&out, rows_status(asked.no_build, &rows), writer)
+    push_shown(alloc, &mut out, form, rows)?;
+    print(&out, status, writer)
 }
 
 /// What the options set, in order.
@@ -246,7 +289,7 @@ fn rows_status(no_build: bool, rows: &[Row]) -> u8
 }
 
 /// Whether there is a plan, and nothing is built where that counts.
-fn is_met(no_build: bool, outcome: &Outcome) -> bool
+pub(crate) fn is_met(no_build: bool, outcome: &Outcome) -> bool
     ensures { result ≡ is_met no_build outcome.now }
 {
     match outcome {

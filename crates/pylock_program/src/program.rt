@@ -6,14 +6,17 @@ ghost use Rattle.pylock_program.specs.Program.{Performs, Tells, greeting, termin
 ghost use Rattle.pylock_program.specs.declared.failure.Failure.TheVariants as failure;
 ghost use Rattle.pylock_run.specs.Report.Print.{Prints};
 
+use crate::audit::audit_lock;
 use crate::diagnostics::tell_bytes;
 use crate::diff::compare;
 use crate::failure::{Failure, program_end};
 use crate::host::{Host, Outputs};
 use crate::matrix::show_matrix;
-use crate::reply::{answer_text, audit_lock, judge_marker, list_files, print_target};
+use crate::reply::{answer_text, judge_marker, list_files, print_target};
 use crate::select::run_select;
 use crate::show::answer_question;
+use crate::status::show_status;
+use crate::summary::show_summary;
 use pylock_command::Task;
 use pylock_run::{Files, Sink, Source, print};
 use std::alloc::Global;
@@ -51,8 +54,10 @@ pub fn perform<F: Files, R: Source, W: Sink, N: Sink>(
         Task::Show(question) => answer_question(alloc, &question, host),
         Task::Select(opening, form) => run_select(alloc, opening, form, host),
         Task::Matrix(asked) => show_matrix(alloc, &asked, host),
+        Task::Status(asked) => show_status(alloc, &asked, host),
+        Task::Summary(lock, form) => show_summary(alloc, lock, form, host),
         Task::Files(lock, output) => list_files(alloc, lock, output, host),
-        Task::Audit(lock, form) => audit_lock(alloc, lock, form, host),
+        Task::Audit(asked) => audit_lock(alloc, asked, host),
         Task::Diff(asked) => compare(alloc, &asked, host),
         Task::Marker(text, machine, form) => judge_marker(alloc, text, machine, form, host),
         Task::Environment(target) => program_end(print_target(alloc, target, &mut host.outputs)),

@@ -14,18 +14,20 @@ ghost use Rattle.pylock_run.specs.Report.Print.{Prints};
 ghost use Rattle.pylock_run.specs.declared.report.fault.RunFault.TheVariants as fault;
 ghost use Rattle.pylock_run.specs.declared.report.opening.OpenError.TheVariants as open_error;
 
-use crate::diagnostics::refusal::{environment_refusal, findings_diagnostic};
+use crate::diagnostics::refusal::{environment_refusal, findings_diagnostic, installed_diagnostic};
 use crate::diagnostics::{tell, tell_bytes};
 use crate::file::{FileBytes, MachineInput};
 use crate::host::Outputs;
 use crate::opening::Unopened;
 use crate::options::option_words;
 use crate::text::audit::push_findings;
+use crate::text::installed::push_installed_refusal;
 use crate::text::json::{push_option_json, push_refusal_json, push_words};
 use pylock_audit::{Findings, LockFinding, findings_document};
 use pylock_command::{Form, PlanOption};
 use pylock_core::{EnvError, LockError};
 use pylock_documents::push_document;
+use pylock_installed::InstalledError;
 use pylock_messages::{Diagnostic, lock_diagnostic};
 use pylock_run::{
     OpenError, RunFault, Sink, lock_words, print, push_next_field, push_refusal, push_side_error,
@@ -65,6 +67,8 @@ pub(crate) enum Cause<'a> {
     Unopened(Unopened),
     /// One of two locks is refused.
     Side(Side, LockError),
+    /// The list of what is installed is refused.
+    Installed(InstalledError),
     /// An option is refused.
     Option(PlanOption<'a>),
 }
@@ -147,6 +151,19 @@ impl<'a> Refusal<'a> {
     {
         let diagnostic = environment_refusal(alloc, &error, machine);
         let cause = Cause::Unopened(Unopened::Refused(OpenError::Environment(error)));
+        Refusal { cause, diagnostic }
+    }
+
+    /// A list of what is installed is refused.
+    pub(crate) fn of_installed(
+        alloc: Global,
+        error: InstalledError,
+        list: &FileBytes<'_>,
+    ) -> Refusal<'a>
+        ensures { result.cause ≡ cause.Installed error }
+    {
+        let diagnostic = installed_diagnostic(alloc, &error, list);
+        let cause = Cause::Installed(error);
         Refusal { cause, diagnostic }
     }
 
@@ -256,6 +273,7 @@ fn push_cause(
     match cause {
         Cause::Unopened(unopened) => push_unopened(alloc, out, form, unopened, diagnostic),
         Cause::Side(side, error) => push_side(alloc, out, (form, *side), error, diagnostic),
+        Cause::Installed(error) => push_installed_refusal(alloc, out, form, error, diagnostic),
         Cause::Option(option) => push_option(alloc, out, form, *option, diagnostic),
     }
 }

@@ -31,7 +31,6 @@ use crate::reply::texts::{
     push_fault, push_match, push_name, push_requirement, push_sdist, push_truth, push_version,
     push_wheel, push_word_refused,
 };
-use crate::text::audit::write_findings;
 use crate::text::files::push_entries;
 use pylock_audit::read_audited;
 use pylock_command::{FilesOutput, Form, Machine, TargetWords, TextQuestion};
@@ -52,11 +51,11 @@ const REFUSED_TEXT: u8 = 1;
 pub(crate) fn list_files<F: Files, R: Source, W: Sink, N: Sink>(
     alloc: Global,
     lock: &str,
-    output: FilesOutput,
+    output: FilesOutput<'_>,
     host: &mut Host<F, R, W, N>,
 ) -> Result<u8, Failure>
     ensures { Opens (F.read_gives host.old.files) lock.now
-        (λ bytes. RepliesTelling (λ diagnostic. files_report output diagnostic bytes))
+        (λ bytes. RepliesTelling (λ diagnostic. files_report output.entry diagnostic bytes))
         (R.value host.old.reader) (R.value host.new.reader)
         (W.value host.old.outputs.writer) (W.value host.new.outputs.writer) result }
 {
@@ -67,11 +66,12 @@ pub(crate) fn list_files<F: Files, R: Source, W: Sink, N: Sink>(
 #[tactic(auto, using(crate::proofs::OpeningLemmas::refused))]
 fn write_files<W: Sink, N: Sink>(
     alloc: Global,
-    output: FilesOutput,
+    output: FilesOutput<'_>,
     file: &FileBytes<'_>,
     outputs: &mut Outputs<W, N>,
 ) -> Result<u8, RunFault>
-    ensures { PrintsTelling (λ diagnostic. files_report output diagnostic file.now.bytes.items)
+    ensures { PrintsTelling
+        (λ diagnostic. files_report output.entry diagnostic file.now.bytes.items)
         (W.value outputs.old.writer) (W.value outputs.new.writer) result }
 {
     match Lock::read(alloc, &file.bytes) {
@@ -91,23 +91,23 @@ fn write_files<W: Sink, N: Sink>(
 }
 
 /// The form in which a refusal is printed; none where the sources would be for another tool.
-fn files_form(output: FilesOutput) -> Option<Form>
-    ensures { result ≡ files_form output }
+pub(crate) fn files_form(output: FilesOutput<'_>) -> Option<Form>
+    ensures { result ≡ files_form output.entry }
 {
     match output {
         FilesOutput::Shown(form) => Some(form),
-        FilesOutput::Tool(_) => None,
+        FilesOutput::Tool(_, _) => None,
     }
 }
 
 /// Writes every source of the entries.
 fn write_entries<W: Sink, N: Sink>(
     alloc: Global,
-    output: FilesOutput,
+    output: FilesOutput<'_>,
     entries: &[Entry],
     outputs: &mut Outputs<W, N>,
 ) -> Result<u8, RunFault>
-    ensures { Prints (entries_report output entries.now)
+    ensures { Prints (entries_report output.entry entries.now)
         (W.value outputs.old.writer) (W.value outputs.new.writer) result }
 {
     match output {
@@ -116,7 +116,9 @@ fn write_entries<W: Sink, N: Sink>(
             push_sources(alloc, &mut out, form, entries)?;
             print(&out, 0, &mut outputs.writer)
         }
-        FilesOutput::Tool(format) => write_files_export(alloc, format, entries, outputs),
+        FilesOutput::Tool(format, base) => {
+            write_files_export(alloc, format, base, entries, outputs)
+        }
     }
 }
 
@@ -169,50 +171,6 @@ fn push_refused_lock(
 }
 
 // ---- what is found in a lock
-
-/// Answers `audit` on the lock of a file.
-pub(crate) fn audit_lock<F: Files, R: Source, W: Sink, N: Sink>(
-    alloc: Global,
-    lock: &str,
-    form: Form,
-    host: &mut Host<F, R, W, N>,
-) -> Result<u8, Failure>
-    ensures { Opens (F.read_gives host.old.files) lock.now
-        (λ bytes. RepliesTelling (λ diagnostic. audit_report form diagnostic bytes))
-        (R.value host.old.reader) (R.value host.new.reader)
-        (W.value host.old.outputs.writer) (W.value host.new.outputs.writer) result }
-{
-    let file = read_bytes(alloc, host, lock)?;
-    program_end(write_audit(alloc, form, &file, &mut host.outputs))
-}
-
-/// A line is written as it is made: it takes memory for the findings, which share what a file is
-/// called, and not for the lines.
-#[tactic(auto, using(crate::proofs::OpeningLemmas::refused))]
-fn write_audit<W: Sink, N: Sink>(
-    alloc: Global,
-    form: Form,
-    file: &FileBytes<'_>,
-    outputs: &mut Outputs<W, N>,
-) -> Result<u8, RunFault>
-    ensures { PrintsTelling (λ diagnostic. audit_report form diagnostic file.now.bytes.items)
-        (W.value outputs.old.writer) (W.value outputs.new.writer) result }
-{
-    match read_audited(alloc, &file.bytes) {
-        Ok((read, found)) => {
-            let end = write_findings(alloc, form, found.as_slice(), &mut outputs.writer);
-            if outputs.ends_process {
-                mem::forget((read, found));
-            }
-            end
-        }
-        Err(LockError::Memory) => Err(RunFault::Memory),
-        Err(error) => {
-            let refusal = Refusal::of_lock(alloc, error, file);
-            write_refusal(alloc, Some(form), refusal, outputs)
-        }
-    }
-}
 
 /// Pushes what `audit` prints of a lock, which is given by the bytes of its TOML text, and answers
 /// the status. It takes memory for the lock, the findings and what it pushes.

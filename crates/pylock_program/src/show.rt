@@ -10,6 +10,7 @@ ghost use Rattle.pylock_program.specs.Show.{view_report, view_shown};
 ghost use Rattle.pylock_run.specs.Report.{is_plan};
 ghost use Rattle.pylock_run.specs.Report.Print.{Prints};
 
+use crate::bill::write_bill;
 use crate::diagnostics::fault::tell_fault;
 use crate::diagnostics::options::tell_options;
 use crate::export::write_plan_export;
@@ -71,7 +72,7 @@ fn write_answer<W: Sink, N: Sink>(
 {
     match open_question(alloc, question, inputs) {
         Ok(session) => {
-            let end = write_output(alloc, question, &session, outputs);
+            let end = write_output(alloc, question, &inputs.lock.bytes, &session, outputs);
             if outputs.ends_process {
                 mem::forget(session);
             }
@@ -82,23 +83,24 @@ fn write_answer<W: Sink, N: Sink>(
 }
 
 /// The form in which a refusal is printed; none where the answer would be for another tool.
-fn output_form(output: Output) -> Option<Form>
-    ensures { result ≡ output_form output }
+fn output_form(output: Output<'_>) -> Option<Form>
+    ensures { result ≡ output_form output.entry }
 {
     match output {
         Output::View(_, form) => Some(form),
-        Output::Tool(_) => None,
+        Output::Tool(_, _) | Output::Bill(_) => None,
     }
 }
 
-/// Writes what is asked for of the session after the options.
+/// Writes what is asked for of the session after the options. `lock` is the text of the lock.
 fn write_output<W: Sink, N: Sink>(
     alloc: Global,
     question: &Question<'_>,
+    lock: &[u8],
     session: &Session,
     outputs: &mut Outputs<W, N>,
 ) -> Result<u8, RunFault>
-    ensures { Prints (output_report question.now.output session.now.state)
+    ensures { Prints (output_report question.now.output lock.now session.now.state)
         (W.value outputs.old.writer) (W.value outputs.new.writer) result }
 {
     let answer = session.answer()?;
@@ -106,7 +108,10 @@ fn write_output<W: Sink, N: Sink>(
         Output::View(view, form) => {
             write_view(alloc, (view, form), session, &answer, &mut outputs.writer)
         }
-        Output::Tool(format) => write_plan_export(alloc, format, session, &answer, outputs),
+        Output::Tool(format, base) => {
+            write_plan_export(alloc, format, base, session, &answer, outputs)
+        }
+        Output::Bill(format) => write_bill(alloc, format, lock, session, &answer, outputs),
     };
     if end.is_ok() {
         tell_answer(alloc, &mut outputs.diagnostics, question, session, &answer);
@@ -138,7 +143,7 @@ fn tell_answer<N: Sink>(
 }
 
 /// Writes the view of the session in the form, with the answer as it stands.
-fn write_view<W: Sink>(
+pub(crate) fn write_view<W: Sink>(
     alloc: Global,
     shown: (View, Form),
     session: &Session,

@@ -4,5 +4,7 @@ pub(crate) mod audit;
 pub(crate) mod diff;
 pub(crate) mod explain;
 pub(crate) mod files;
+pub(crate) mod installed;
 pub(crate) mod json;
 mod safe;
+pub(crate) mod summary;

@@ -58,6 +58,19 @@ past_earlier a b c first past =
         ap (past_by a.after) same ∙ lower_ties a.after b.after _ (rw is at first) past
     by Greater is first past = let e : false ≡ true = rw is at first in cc e
 
+-- what doesn't lie in a step past a cut, where the step begins no later than that, comes before the cut or behind the step
+pub outside_of : (low begin end : Cut) (c : Parts) → is_at_or_before begin low ≡ true
+    → (is_past low c && (is_past begin c && not (is_past end c))) ≡ false → (not (is_past low c) || is_past end c) ≡ true
+outside_of low begin end c first out = by (is_past low c) (is_past end c) refl out
+  where
+    by : (b x : Bool) → is_past low c ≡ b → (b && (is_past begin c && not x)) ≡ false → (not b || x) ≡ true
+    by false x is out = refl
+    by true true is out = refl
+    by true false is out =
+        let past : is_past begin c ≡ true = past_earlier begin low c first is in
+        let e : (true && (true && not false)) ≡ false = rw past at out in
+        cc e
+
 -- one more limit
 all_more : {X : Type 0} (test : X → Bool) (xs : List X) (x : X) → list_all test (xs ++ x ∷ []) ≡ (list_all test xs && test x)
 all_more test [] x = and_true (test x)

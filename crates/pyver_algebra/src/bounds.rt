@@ -1,6 +1,6 @@
 //! What is known of a version.
 
-ghost use Rattle.std.specs.Prelude.{◌≡◌, IsTrue, OnOk};
+ghost use Rattle.std.specs.Prelude.{◌≡◌, ◌&&◌, IsTrue, OnOk, false};
 ghost use Rattle.pyver_core.specs.Set.Admission.{admits, admits_all};
 ghost use Rattle.pyver_core.specs.Version.Parts.{Parts};
 ghost use Rattle.pyver_algebra.specs.FirstTwo.{first_two};
@@ -8,6 +8,7 @@ ghost use Rattle.pyver_algebra.specs.Limits.{Keeps, is_between, is_past, lies_wi
 
 use crate::limit::{Cut, Limit};
 use crate::lowest::{any_ends_before, lowest_cut};
+use crate::step::Step;
 use pyver_core::Specifier;
 use std::alloc::{AllocError, Global};
 use std::marker::Model;
@@ -150,6 +151,18 @@ impl Bounds {
         } else {
             self.keep(Limit::Outside(begin, end))
         }
+    }
+
+    /// Keeps that versions lie before a cut, or outside of a step. Nothing follows where the step
+    /// begins behind the cut.
+    pub(crate) fn keep_outside(&mut self, low: Cut, step: Step) -> Result<(), AllocError>
+        ensures { OnOk result ((v : Parts) → Keeps self.old v
+            → (is_past low v && is_between step.begin step.end v) ≡ false → Keeps self.new v) }
+    {
+        if !step.begin.is_at_or_before(&low) {
+            return Ok(());
+        }
+        self.keep(Limit::Outside(low, step.end))
     }
 }
 

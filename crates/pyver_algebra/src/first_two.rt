@@ -1,6 +1,6 @@
 //! What follows of a version whose first two numbers a specifier admits, or doesn't admit.
 
-ghost use Rattle.std.specs.Prelude.{◌≡◌, OnOk};
+ghost use Rattle.std.specs.Prelude.{◌≡◌, OnOk, false};
 ghost use Rattle.pyver_core.specs.Set.Admission.{is_above, is_at_least, is_at_most, is_below};
 ghost use Rattle.pyver_core.specs.Set.Admission.{is_compatible, matches, matches_prefix};
 ghost use Rattle.pyver_core.specs.Version.Parts.{Parts};
@@ -8,7 +8,7 @@ ghost use Rattle.pyver_algebra.specs.FirstTwo.{first_two};
 ghost use Rattle.pyver_algebra.specs.Limits.{Keeps};
 
 use crate::bounds::Bounds;
-use crate::step::step_of;
+use crate::step::{prefix_step, step_of};
 use pyver_core::Version;
 use std::alloc::{AllocError, Global};
 
@@ -110,7 +110,7 @@ impl Bounds {
         self.add_prefix(alloc, epoch, release, wanted)
     }
 
-    /// `~=V`. Nothing follows of versions that aren't admitted.
+    /// `~=V`
     pub(crate) fn add_first_compatible(
         &mut self,
         alloc: Global,
@@ -121,10 +121,33 @@ impl Bounds {
             → is_compatible operand.now (first_two v) ≡ wanted → Keeps self.new v) }
     {
         if !wanted {
-            return Ok(());
+            return self.keep_first_incompatible(alloc, operand);
         }
         let release = operand.release();
         self.add_first_at_least(alloc, operand, true)?;
         self.add_first_prefix(alloc, operand.epoch(), &release[..release.len() - 1], true)
+    }
+
+    /// Keeps that versions come before the step of V, or behind those that begin as V does.
+    fn keep_first_incompatible(
+        &mut self,
+        alloc: Global,
+        operand: &Version,
+    ) -> Result<(), AllocError>
+        ensures { OnOk result ((v : Parts) → v.epoch ≡ 0 → Keeps self.old v
+            → is_compatible operand.now (first_two v) ≡ false → Keeps self.new v) }
+    {
+        let release = operand.release();
+        let prefix = &release[..release.len() - 1];
+        if operand.epoch() != 0 || prefix.len() > 2 {
+            return Ok(());
+        }
+        match (
+            step_of(alloc, operand)?,
+            prefix_step(alloc, operand.epoch(), prefix)?,
+        ) {
+            (Some(step), Some(outer)) => self.keep_outside(step.begin, outer),
+            _ => Ok(()),
+        }
     }
 }

@@ -1,8 +1,7 @@
 //! Questions about specifier sets, asked of every version.
 
-ghost use Rattle.std.specs.Prelude.{◌-◌, IfOk, IsTrue, length, take};
-ghost use Rattle.pyver_core.specs.Set.Admission.{admits, admits_all, is_at_least};
-ghost use Rattle.pyver_core.specs.Set.Admission.{matches_prefix};
+ghost use Rattle.std.specs.Prelude.{IfOk, IsTrue};
+ghost use Rattle.pyver_core.specs.Set.Admission.{admits, admits_all};
 ghost use Rattle.pyver_core.specs.Version.Parts.{Parts};
 ghost use Rattle.pyver_algebra.specs.Sets.{HaveNothingInCommon, IsEmpty, LiesIn, Says};
 
@@ -120,36 +119,8 @@ fn is_implied(alloc: Global, known: &[Specifier], specifier: &Specifier) -> Resu
     ensures { IfOk result (λ yes. IsTrue yes → (v : Parts) → IsTrue (admits_all known.now v)
         → IsTrue (admits specifier.now v)) }
 {
-    if let Specifier::Compatible(operand) = specifier {
-        return Ok(are_from(alloc, known, operand)? && have_front(alloc, known, operand)?);
-    }
     let mut bounds = Bounds::new(alloc);
     bounds.add_all(alloc, known)?;
     bounds.add(alloc, specifier, false)?;
-    Ok(bounds.are_empty())
-}
-
-/// Whether the versions that the known specifiers admit are seen to be at least the operand.
-fn are_from(alloc: Global, known: &[Specifier], operand: &Version) -> Result<bool, AllocError>
-    ensures { IfOk result (λ yes. IsTrue yes → (v : Parts) → IsTrue (admits_all known.now v)
-        → IsTrue (is_at_least operand.now v)) }
-{
-    let mut bounds = Bounds::new(alloc);
-    bounds.add_all(alloc, known)?;
-    bounds.add_at_least(operand, false)?;
-    Ok(bounds.are_empty())
-}
-
-/// Whether the releases of the versions that the known specifiers admit are seen to begin with the
-/// operand's without its last number.
-fn have_front(alloc: Global, known: &[Specifier], operand: &Version) -> Result<bool, AllocError>
-    ensures { IfOk result (λ yes. IsTrue yes → (v : Parts) → IsTrue (admits_all known.now v)
-        → IsTrue (matches_prefix operand.now.epoch
-        (take (length operand.now.release - 1) operand.now.release) v)) }
-{
-    let release = operand.release();
-    let mut bounds = Bounds::new(alloc);
-    bounds.add_all(alloc, known)?;
-    bounds.add_prefix(alloc, operand.epoch(), &release[..release.len() - 1], false)?;
     Ok(bounds.are_empty())
 }

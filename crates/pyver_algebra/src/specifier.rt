@@ -9,9 +9,10 @@ ghost use Rattle.pyver_algebra.specs.Limits.{Keeps, is_at, is_from};
 ghost use Rattle.pyver_algebra.specs.Firsts.{first_of};
 
 use crate::bounds::Bounds;
-use crate::first::{first_of, with_last_raised, with_one};
+use crate::first::{first_of, with_one};
 use crate::limit::Cut;
 use crate::spelled::spelled_version;
+use crate::step::prefix_step;
 use pyver_core::Version;
 use std::alloc::{AllocError, Global};
 
@@ -75,18 +76,9 @@ impl Bounds {
         ensures { OnOk result ((v : Parts) → Keeps self.old v
             → matches_prefix epoch release.now v ≡ wanted → Keeps self.new v) }
     {
-        let Some(raised) = with_last_raised(alloc, release)? else {
-            return Ok(());
-        };
-        let release = Vec::from_slice(alloc, release)?;
-        match (
-            first_of(alloc, epoch, release)?,
-            first_of(alloc, epoch, raised)?,
-        ) {
-            (Some(begin), Some(end)) => {
-                self.keep_between(Cut::before(begin), Cut::before(end), wanted)
-            }
-            _ => Ok(()),
+        match prefix_step(alloc, epoch, release)? {
+            Some(step) => self.keep_between(step.begin, step.end, wanted),
+            None => Ok(()),
         }
     }
 
@@ -162,7 +154,7 @@ impl Bounds {
         }
     }
 
-    /// `~=V`. Nothing follows of versions that aren't admitted.
+    /// `~=V`
     pub(crate) fn add_compatible(
         &mut self,
         alloc: Global,
@@ -173,11 +165,24 @@ impl Bounds {
             → is_compatible operand.now v ≡ wanted → Keeps self.new v) }
     {
         if !wanted {
-            return Ok(());
+            return self.keep_incompatible(alloc, operand);
         }
         let release = operand.release();
         self.add_at_least(operand, true)?;
         self.add_prefix(alloc, operand.epoch(), &release[..release.len() - 1], true)
+    }
+
+    /// Keeps that versions come before V, or behind those that begin as V does.
+    fn keep_incompatible(&mut self, alloc: Global, operand: &Version) -> Result<(), AllocError>
+        ensures { OnOk result ((v : Parts) → Keeps self.old v
+            → is_compatible operand.now v ≡ false → Keeps self.new v) }
+    {
+        let release = operand.release();
+        let prefix = &release[..release.len() - 1];
+        match prefix_step(alloc, operand.epoch(), prefix)? {
+            Some(step) => self.keep_outside(Cut::before(operand.clone()?), step),
+            None => Ok(()),
+        }
     }
 }
 

@@ -22,7 +22,7 @@ REQUIREMENTS = ["requests[socks]>=2,<3; python_version<'3.8'", "a@https://h/x.wh
 WHEELS = ["cffi-1.17.1-cp312-cp312-manylinux_2_17_x86_64.manylinux2014_x86_64.whl", "a-1-py3-none-any.whl", "a-1-2x-py2.py3-none-any.whl", "a.whl",
           "a-1-py3-none.whl", "a-x-py3-none-any.whl", "a-1-py3-none-any.zip"]
 SDISTS = ["a-1.tar.gz", "Foo_Bar-1.0rc1.zip", "a.tar.gz", "a-x.tar.gz", "a-1.tgz"]
-FORMS = ["requirements", "requirements-local", "sha256sum", "aria2", "urls", "pip"]
+FORMS = ["requirements", "requirements-local", "sha256sum", "aria2", "urls", "cyclonedx", "spdx", "pip"]
 EDITS = ["show", "set python_version 3.12", "set os_name nt", "unset platform_release", "extra+ science", "extra- science", "extra+ nope", "group+ test",
          "group- docs", "tags py3-none-any", "tags cp312-cp312-manylinux_2_17_x86_64 py3-none-any", "tags x", "del 1", "del 99", "policy numpy wheel",
          "policy cffi source", "policy x y", "fly", "", "put 1 {name = \"a\"}", "add {name = \"zz\", directory = {path = \"d\"}}", "add {", "\r", "set"]

@@ -1,9 +1,12 @@
--- What `files` prints: a line for each source that a lock names, whatever machine it is for.
+-- What `files` prints: a line for each source that a lock names, whatever machine it is for; and
+-- what `matrix` prints with `--files`.
 use Rattle.std.specs.Prelude.{ℕ, ◌+◌, ◌++◌, List, [], ◌∷◌, codes, decimal, length, map}
 use Rattle.std.specs.List.{flat_map}
 use Rattle.pylock_readers.specs.Entry.{EntryValue}
 use Rattle.pylock_core.specs.Session.Picks.{sources}
-use Rattle.pylock_run.specs.Text.Plan.{source_fields, source_line}
+use Rattle.pylock_core.specs.Session.State.{State}
+use Rattle.pylock_core.specs.declared.answer.Pick.{Pick}
+use Rattle.pylock_run.specs.Text.Plan.{pick_text, source_fields, source_line}
 
 -- the lines of the sources of an entry, which has this number: `vcs`, `directory`, `archive`, the
 -- wheels in order, `sdist`
@@ -17,7 +20,12 @@ lines_from number [] = []
 lines_from number (entry ∷ entries) =
     lines_of_entry number entry ++ lines_from (number + 1) entries
 
--- `files K` and K lines
+-- `files K` and K lines, of the sources that picks name
+abbrev pub picked_text : State → List Pick → List ℕ
+picked_text state picks =
+    codes "files " ++ decimal (length picks) ++ codes "\n" ++ flat_map (pick_text state) picks
+
+-- the same of the sources of all entries
 abbrev pub files_text : List EntryValue → List ℕ
 files_text entries =
     let lines = lines_from 1 entries in

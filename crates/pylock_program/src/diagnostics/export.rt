@@ -1,9 +1,10 @@
 //! Diagnostics of the form of another tool.
 
 use crate::diagnostics::{tell_bytes, tell_made};
-use pylock_command::PlanFormat;
+use pylock_command::{Base, PlanFormat};
 use pylock_exports::{Exported, FormatRefusal, explain_exported, explain_refusal};
 use pylock_run::Sink;
+use pylock_shown::hidden;
 use std::alloc::{AllocError, Global};
 
 /// Tells what the form leaves out, and where that is, if there is something.
@@ -17,6 +18,36 @@ pub(crate) fn tell_exported<N: Sink>(
         Ok(Some(note)) => tell_made(alloc, diagnostics, Ok(note)),
         _ => {}
     }
+}
+
+/// Tells how many URLs of the form don't begin as the base says, if there are any, and the first of
+/// them.
+pub(crate) fn tell_elsewhere<N: Sink>(
+    alloc: Global,
+    diagnostics: &mut N,
+    base: Base<'_>,
+    exported: &Exported,
+) {
+    if let Some(first) = &exported.first_elsewhere {
+        let note = elsewhere_note(alloc, base, exported.elsewhere, first.as_str());
+        tell_made(alloc, diagnostics, note);
+    }
+}
+
+fn elsewhere_note(
+    alloc: Global,
+    base: Base<'_>,
+    count: usize,
+    first: &str,
+) -> Result<String, AllocError> {
+    let from = hidden(alloc, base.from)?;
+    let first = hidden(alloc, first)?;
+    let (urls, more) = if count == 1 {
+        ("URL doesn't", "")
+    } else {
+        ("URLs don't", ", ..")
+    };
+    format!(in alloc; "note: {count} {urls} begin with `{from}`: `{first}`{more}")
 }
 
 /// Tells that the form can't hold the entry of this name, which is refused, and why: first the line

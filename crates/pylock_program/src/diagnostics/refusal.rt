@@ -1,13 +1,18 @@
-//! Diagnostics of a lock or an environment that is refused, and of findings that are.
+//! Diagnostics of a lock, an environment or a list of what is installed that is refused, and of
+//! findings that are.
 
 use crate::file::{FileBytes, Inputs, MachineInput};
 use crate::opening::Unopened;
 use pylock_core::EnvError;
+use pylock_installed::InstalledError;
 use pylock_messages::{
     Diagnostic, begins_like_json, environment_diagnostic, lock_diagnostic, target_diagnostic,
 };
 use pylock_run::OpenError;
 use std::alloc::{AllocError, Global};
+
+/// What is taken as a list of what is installed.
+const LISTS: &str = "pip list --format json and pip inspect print what is taken";
 
 /// Why there is no session on what was read.
 pub(crate) fn unopened_diagnostic(
@@ -66,4 +71,29 @@ pub(crate) fn environment_refusal(
             target_diagnostic(alloc, target.python, target.platform, error)
         }
     }
+}
+
+/// Why a list of what is installed is refused so.
+pub(crate) fn installed_diagnostic(
+    alloc: Global,
+    error: &InstalledError,
+    list: &FileBytes<'_>,
+) -> Result<Option<Diagnostic>, AllocError> {
+    let path = list.path;
+    let note = match error {
+        InstalledError::Json => format!(in alloc; "{path}: not JSON; {LISTS}")?,
+        InstalledError::Shape => {
+            format!(in alloc; "{path}: neither a list nor an object with `installed`; {LISTS}")?
+        }
+        InstalledError::Element(place) => {
+            format!(in alloc;
+                "{path}: element {place}: no name, no version, or an unknown direct URL"
+            )?
+        }
+        InstalledError::Twice(place) => {
+            format!(in alloc; "{path}: element {place}: an earlier one has the same name")?
+        }
+        InstalledError::Memory => return Ok(None),
+    };
+    Ok(Some(Diagnostic::of_message(alloc, note.as_str())?))
 }

@@ -1,13 +1,14 @@
-//! Every source that a lock names, a line for each.
+//! Every source that a lock names, or those that picks name, a line for each.
 
 ghost use Rattle.std.specs.Prelude.{◌≡◌, ◌++◌, IfOk, OnOk, map};
 ghost use Rattle.std.specs.List.{flat_map};
 ghost use Rattle.pylock_core.specs.Session.Picks.{lent_named};
-ghost use Rattle.pylock_run.specs.Text.Plan.{source_fields, source_line};
+ghost use Rattle.pylock_run.specs.Text.Plan.{pick_text, source_fields, source_line};
 ghost use Rattle.pylock_program.specs.Text.Files.{files_text, lines_from, lines_of_entry};
+ghost use Rattle.pylock_program.specs.Text.Files.{picked_text};
 
 use crate::lines::push_count;
-use pylock_core::{Entry, NamedSource, PickedSource, sources};
+use pylock_core::{Entry, NamedSource, Pick, PickedSource, Session, sources};
 use pylock_run::push_source_line;
 use std::alloc::{AllocError, Global};
 use std::marker::Model;
@@ -44,6 +45,39 @@ pub(crate) fn push_entries(
     let lines = source_lines(alloc, entries)?;
     push_count(out, "files", lines.len())?;
     push_lines(out, lines.as_slice())
+}
+
+/// Pushes `files K` and a line for each source that picks name.
+pub(crate) fn push_picked(
+    out: &mut Vec<u8>,
+    session: &Session,
+    picks: &[Pick],
+) -> Result<(), AllocError>
+    ensures { OnOk result (out.new.items
+        ≡ out.old.items ++ picked_text session.now.state picks.now) }
+{
+    push_count(out, "files", picks.len())?;
+    push_picks(out, session, picks)
+}
+
+fn push_picks(out: &mut Vec<u8>, session: &Session, picks: &[Pick]) -> Result<(), AllocError>
+    ensures { OnOk result (out.new.items
+        ≡ out.old.items ++ flat_map (pick_text session.now.state) picks.now) }
+{
+    for pick in picks {
+        push_pick(out, session, pick)?;
+    }
+    Ok(())
+}
+
+/// Pushes the line of the source that a pick names.
+fn push_pick(out: &mut Vec<u8>, session: &Session, pick: &Pick) -> Result<(), AllocError>
+    ensures { OnOk result (out.new.items ≡ out.old.items ++ pick_text session.now.state pick.now) }
+{
+    match session.entry(pick.id) {
+        Some(entry) => push_source_line(out, u64::from(pick.id), entry, pick.source.of(entry)),
+        None => Ok(()),
+    }
 }
 
 /// The sources of all entries.

@@ -1,6 +1,6 @@
 use Rattle.std.proofs.Common.{◌≡◌, ◌∷◌, ◌++◌, [], codes, rules, string_bytes, unwrap_or}
 use Rattle.std.proofs.lemmas.Result.{on_ok_weaker}
-use Rattle.pylock_core.specs.Session.Picks.{lent_source}
+use Rattle.pylock_exports.specs.Inner.{written}
 use Rattle.pylock_exports.specs.Listed.{url_of}
 use Rattle.pylock_exports.specs.Lists.{value_of}
 use Rattle.pylock_exports.specs.Texts.{lines_text}
@@ -10,7 +10,7 @@ use Rattle.pylock_exports.proofs.lists.push_aria2.Goals as goal
 
 pub returns : goal.returns
 returns c =
-    let source = lent_source c.args.source in
+    let source = written c.args.source in
     let url : string_bytes c.push_whole.new.text ≡ string_bytes c.args.text.now ++ lines_text (unwrap_or (url_of source) [] ∷ []) = search rules in
     let file : string_bytes c.push_line.new.text ≡ string_bytes c.push_whole.new.text ++ lines_text ((codes " out=" ++ c.args.name.now) ∷ []) = search rules in
     let hash : string_bytes c.push_line-2.new.text ≡ string_bytes c.push_line.new.text ++ lines_text ((codes " checksum=sha-256=" ++ value_of Aria2 source) ∷ []) = search rules in

@@ -20,3 +20,9 @@ returns-in-Marker g c = rw c.in-Marker.is c.judge_marker.ensures
 
 pub returns-in-Matrix : goal.returns-in-Matrix
 returns-in-Matrix g c = rw c.in-Matrix.is c.show_matrix.ensures
+
+pub returns-in-Status : goal.returns-in-Status
+returns-in-Status g c = rw c.in-Status.is c.show_status.ensures
+
+pub returns-in-Summary : goal.returns-in-Summary
+returns-in-Summary g c = rw c.in-Summary.is c.show_summary.ensures

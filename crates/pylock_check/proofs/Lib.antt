@@ -1,0 +1,4 @@
+pub mod TableLemmas
+mod TextLemmas
+mod GroupLemmas
+mod NeverMemory

@@ -1,0 +1,43 @@
+//! Why a project file is refused.
+
+ghost use Rattle.std.specs.Prelude.{◌≡◌};
+ghost use Rattle.pylock_check.specs.declared.error.ProjectError.TheVariants as error;
+
+use pytext::Text;
+use std::alloc::AllocError;
+
+/// Why a project file is refused. A text is the place in the file: the key, and of an element of a
+/// list its number from 1, as `project.dependencies 3`.
+#[derive(Debug, Drop)]
+pub enum ProjectError {
+    /// The bytes are not UTF-8.
+    NotText,
+    /// The text is no TOML document.
+    Toml,
+    /// The value there is of another type than its standard demands.
+    WrongType(Text),
+    /// `project.requires-python` is no specifier set (PEP 440).
+    Specifiers,
+    /// The text there is no requirement (PEP 508).
+    Requirement(Text),
+    /// The key or the text there is no name (PEP 508).
+    Name(Text),
+    /// The key there has the name of an earlier one, in another spelling (PEP 503).
+    Twice(Text),
+    /// The table there isn't an `include-group` alone (PEP 735).
+    Include(Text),
+    /// The group that is included there doesn't exist.
+    UnknownGroup(Text),
+    /// The group there includes itself, over others or not, or one that does.
+    Cycle(Text),
+    /// Memory was refused.
+    Memory,
+}
+
+impl<E: Into<AllocError> + Drop> From<E> for ProjectError {
+    ghost from_gives = { λ _ e. e ≡ error.Memory };
+
+    fn from(_refused: E) -> ProjectError {
+        ProjectError::Memory
+    }
+}

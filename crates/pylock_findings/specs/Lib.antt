@@ -1,0 +1,8 @@
+pub mod Environments
+pub mod Host
+pub mod Inner
+pub mod Lines
+pub mod Merging
+pub mod Policy
+pub mod Texts
+pub mod Vulnerable

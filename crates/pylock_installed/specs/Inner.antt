@@ -1,0 +1,2 @@
+-- What serves the contracts of private functions alone.
+pub mod Tables

@@ -1,0 +1,4 @@
+pub mod Fact
+pub mod Kind
+pub mod Summary
+pub mod Document
