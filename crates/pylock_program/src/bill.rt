@@ -28,7 +28,7 @@ pub(crate) fn write_bill<W: Sink, N: Sink>(
     answer: &Answer,
     outputs: &mut Outputs<W, N>,
 ) -> Result<u8, RunFault>
-    ensures { Prints (answer_billed format lock.now session.now.state answer.now)
+    ensures { Prints (answer_billed format.entry lock.now session.now.state answer.now)
         (W.value outputs.old.writer) (W.value outputs.new.writer) result }
 {
     match answer {
@@ -52,7 +52,7 @@ fn bill_document(
 ) -> Result<Object, AllocError>
     requires { answered.0.now ≡ answers.Plan answered.1.now }
     ensures { IfOk result (λ object. members_view object
-        ≡ members_of (bill_rows format lock.now session.now.state answered.1.now)) }
+        ≡ members_of (bill_rows format.entry lock.now session.now.state answered.1.now)) }
 {
     let (answer, plan) = answered;
     match format {
