@@ -52,7 +52,7 @@ fn bill_document(
 ) -> Result<Object, AllocError>
     requires { answered.0.now ≡ answers.Plan answered.1.now }
     ensures { IfOk result (λ object. members_view object
-        ≡ members_of (bill_rows format.entry lock.now session.now.state answered.1.now)) }
+        ≡ members_of (bill_rows format.entry lock.now session.now.state answered.entry.1.now)) }
 {
     let (answer, plan) = answered;
     match format {
