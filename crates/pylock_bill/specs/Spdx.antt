@@ -1,8 +1,8 @@
 -- The bill of materials as SPDX 2.3 has it, in JSON.
 use Rattle.std.specs.Prelude.{ℕ, ◌++◌, codes, decimal, false, List, [], ◌∷◌, Some, map}
-use Rattle.std.specs.Prelude.{option_map}
+use Rattle.std.specs.Prelude.{if◌then◌else◌, option_map}
 use Rattle.std.specs.Char.{to_ascii_lowercase}
-use Rattle.std.specs.List.{flat_map}
+use Rattle.std.specs.List.{flat_map, list_all}
 use Rattle.std.specs.Option.{option_map_or}
 use Rattle.serde_json.specs.Data.{Data}
 use Rattle.pylock_json.specs.Json.{Row, list_of, maybe, object_of, texts_of, there, truth}
@@ -13,7 +13,7 @@ use Rattle.pylock_core.specs.declared.answer.Pick.{Pick}
 use Rattle.pylock_bill.specs.declared.hash.Algorithm.{Algorithm}
 use Rattle.pylock_bill.specs.Hash.{hash_algorithm, spdx_word}
 use Rattle.pylock_bill.specs.Purl.{normal_version, purl}
-use Rattle.pylock_bill.specs.Source.{of_pick, source_url}
+use Rattle.pylock_bill.specs.Source.{is_uri_character, of_pick, source_url}
 
 -- ---- the checksums of a package (section 7.10)
 
@@ -38,9 +38,15 @@ url_location source url =
     option_map_or (λ vcs. vcs.kind ++ codes "+" ++ url ++ codes "@" ++ vcs.commit_id)
     (source_vcs source) url
 
+-- a location, if each of its characters is one that a URI may have
+abbrev pub asserted : List ℕ → List ℕ
+asserted location =
+    if list_all is_uri_character location then location else codes "NOASSERTION"
+
 abbrev pub location_text : SourceValue → List ℕ
 location_text source =
-    option_map_or (url_location source) (source_url source) (codes "NOASSERTION")
+    option_map_or (λ url. asserted (url_location source url)) (source_url source)
+    (codes "NOASSERTION")
 
 -- ---- the external reference of a package (section 7.21)
 

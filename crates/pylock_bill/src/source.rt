@@ -37,7 +37,7 @@ fn bare_url(alloc: Global, url: &str) -> Result<Option<&str>, AllocError>
 }
 
 /// Whether each character of a text is one that a URI may have.
-fn has_uri_characters(text: &str) -> bool
+pub(crate) fn has_uri_characters(text: &str) -> bool
     ensures { result ≡ list_all is_uri_character text.now }
 {
     text.as_bytes().iter().all(|byte| is_uri_character(*byte))

@@ -8,7 +8,7 @@ ghost use Rattle.pylock_json.specs.Json.{members_of, object_of};
 ghost use Rattle.pylock_readers.specs.Text.{text_pair, text_pairs};
 ghost use Rattle.pylock_core.specs.Session.Picks.{lent_source};
 ghost use Rattle.pylock_bill.specs.Spdx.{checksum_data, checksum_rows, creation_rows};
-ghost use Rattle.pylock_bill.specs.Spdx.{location_text, package_data, package_id, purl_rows};
+ghost use Rattle.pylock_bill.specs.Spdx.{asserted, location_text, package_data, package_id, purl_rows};
 ghost use Rattle.pylock_bill.specs.Spdx.{relationship_data, relationship_rows, spdx_rows};
 ghost use Rattle.pylock_bill.specs.Spdx.{url_location};
 ghost use Rattle.pylock_bill.specs.Purl.{purl};
@@ -16,7 +16,7 @@ ghost use Rattle.pylock_bill.specs.Source.{of_pick};
 
 use crate::hash::{Algorithm, Hash, hash_algorithm};
 use crate::purl::{normal_version_of, purl_of};
-use crate::source::source_url;
+use crate::source::{has_uri_characters, source_url};
 use pylock_core::{Entry, Pick, PickedSource, Plan, Session};
 use pylock_json::{Json, List, Object};
 use std::alloc::{AllocError, Global};
@@ -135,8 +135,22 @@ fn location_text(alloc: Global, source: PickedSource<'_>) -> Result<String, Allo
         ≡ location_text (lent_source source.entry)) }
 {
     match source_url(alloc, source)? {
-        Some(url) => url_location(alloc, source, url),
+        Some(url) => {
+            let location = url_location(alloc, source, url)?;
+            asserted(alloc, location)
+        }
         None => String::from_str(alloc, "NOASSERTION"),
+    }
+}
+
+/// The location, if each of its characters is one that a URI may have.
+fn asserted(alloc: Global, location: String) -> Result<String, AllocError>
+    ensures { IfOk result (λ text. string_bytes text ≡ asserted (string_bytes location.entry)) }
+{
+    if has_uri_characters(&location) {
+        Ok(location)
+    } else {
+        String::from_str(alloc, "NOASSERTION")
     }
 }
 
