@@ -145,7 +145,7 @@ fn location_text(alloc: Global, source: PickedSource<'_>) -> Result<String, Allo
 
 /// The location, if each of its characters is one that a URI may have.
 fn asserted(alloc: Global, location: String) -> Result<String, AllocError>
-    ensures { IfOk result (λ text. string_bytes text ≡ asserted (string_bytes location.entry)) }
+    ensures { IfOk result (λ text. string_bytes text ≡ asserted (string_bytes location)) }
 {
     if has_uri_characters(&location) {
         Ok(location)

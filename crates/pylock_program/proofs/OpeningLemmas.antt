@@ -67,6 +67,12 @@ nothing_printed report sink sink' result memory same = subst (λ r. PrintsTellin
     (subst (λ s. PrintsTelling report sink s (Err fault.Memory)) (sym same)
     (None, record { text = tt; status = tt; counted = tt; prefix = prefix_none sink _; fault = refl }))
 
+pub nothing_written : (report : Report) (sink sink' : SinkValue) (result : Result ℕ RunFault)
+    → result ≡ Err fault.Memory → sink' ≡ sink → Prints report sink sink' result
+nothing_written report sink sink' result memory same = subst (λ r. Prints report sink sink' r) (sym memory)
+    (subst (λ s. Prints report sink s (Err fault.Memory)) (sym same)
+    (record { text = tt; status = tt; counted = tt; prefix = prefix_none sink _; fault = refl }))
+
 module _ (form : Option Form) (because : Cause) (sink sink' : SinkValue) (result : Result ℕ RunFault) where
   pub told_nothing : form ≡ None → Prints (silence (cause_status because)) sink sink' result
       → PrintsTelling (λ diagnostic. refusal_report form diagnostic because) sink sink' result

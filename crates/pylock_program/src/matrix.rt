@@ -185,8 +185,8 @@ fn start_on(alloc: Global, lock: Lock, target: &Target) -> Result<Session, Alloc
 }
 
 /// The form in which a refusal is printed; none where the files would be for another tool.
-fn matrix_form(output: MatrixOutput) -> Option<Form>
-    ensures { result ≡ matrix_form output }
+fn matrix_form(output: MatrixOutput<'_>) -> Option<Form>
+    ensures { result ≡ matrix_form output.entry }
 {
     match output {
         MatrixOutput::Rows(form) => Some(form),
