@@ -101,7 +101,6 @@ pub(crate) fn files_form(output: FilesOutput<'_>) -> Option<Form>
 }
 
 /// Writes every source of the entries.
-#[tactic(auto, using(crate::proofs::OpeningLemmas::nothing_written))]
 fn write_entries<W: Sink, N: Sink>(
     alloc: Global,
     output: FilesOutput<'_>,

@@ -14,7 +14,6 @@ use pylock_run::{RunFault, Sink, print};
 use std::alloc::{AllocError, Global};
 
 /// Writes the files that picks name, and answers this status, or 1 where a form can't hold them.
-#[tactic(auto, using(crate::proofs::OpeningLemmas::nothing_written))]
 pub(crate) fn write_picked<W: Sink, N: Sink>(
     alloc: Global,
     output: FilesOutput<'_>,
