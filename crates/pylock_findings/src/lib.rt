@@ -12,13 +12,7 @@
 //! ```
 //!
 //! The lines of [`vulnerable_lines`] and [`host_lines`] stand beside those of `pylock_audit` too. A
-//! [`Policy`] says which of all findings count, and which fail:
-//!
-//! ```rust
-//! let policy = Policy::read(alloc, Some("vulnerable,no-hash"), &["vulnerable:jinja2"])?;
-//! let (counted, ignored) = policy.counted(found);
-//! let status = policy.status(&counted);
-//! ```
+//! [`Policy`] says which of all findings count, and which fail.
 #![tactic(auto)]
 
 mod environments;
