@@ -6,3 +6,4 @@ pub mod Reading
 pub mod Judging
 pub mod Head
 pub mod Written
+pub mod Words

@@ -1,6 +1,8 @@
 //! Why a project file is refused.
 
 ghost use Rattle.std.specs.Prelude.{◌≡◌};
+ghost use Rattle.std.specs.Option.{option_copied};
+ghost use Rattle.pylock_check.specs.Words.{project_place, project_word};
 ghost use Rattle.pylock_check.specs.declared.error.ProjectError.TheVariants as error;
 
 use pytext::Text;
@@ -32,6 +34,47 @@ pub enum ProjectError {
     Cycle(Text),
     /// Memory was refused.
     Memory,
+}
+
+impl ProjectError {
+    /// Its word: `not-text`, `toml`, `type`, `requires-python`, `requirement`, `name`, `twice`,
+    /// `include`, `unknown-group` or `cycle`. It takes no memory.
+    pub fn word(&self) -> &'static str
+        ensures { result.now ≡ project_word self.now }
+    {
+        match self {
+            ProjectError::NotText => "not-text",
+            ProjectError::Toml => "toml",
+            ProjectError::WrongType(_) => "type",
+            ProjectError::Specifiers => "requires-python",
+            ProjectError::Requirement(_) => "requirement",
+            ProjectError::Name(_) => "name",
+            ProjectError::Twice(_) => "twice",
+            ProjectError::Include(_) => "include",
+            ProjectError::UnknownGroup(_) => "unknown-group",
+            ProjectError::Cycle(_) => "cycle",
+            ProjectError::Memory => "memory",
+        }
+    }
+
+    /// The place in the file, where one is at fault. It takes no memory.
+    pub fn place(&self) -> Option<&str>
+        ensures { option_copied result ≡ project_place self.now }
+    {
+        match self {
+            ProjectError::WrongType(place)
+            | ProjectError::Requirement(place)
+            | ProjectError::Name(place)
+            | ProjectError::Twice(place)
+            | ProjectError::Include(place)
+            | ProjectError::UnknownGroup(place)
+            | ProjectError::Cycle(place) => Some(place.as_str()),
+            ProjectError::NotText
+            | ProjectError::Toml
+            | ProjectError::Specifiers
+            | ProjectError::Memory => None,
+        }
+    }
 }
 
 impl<E: Into<AllocError> + Drop> From<E> for ProjectError {

@@ -13,6 +13,7 @@ use Rattle.pylock_command.specs.Texts.{HasText, has_flag, input_misuse, inputs_m
 use Rattle.pylock_command.specs.declared.misuse.Misuse.{Misuse}
 use Rattle.pylock_command.specs.declared.misuse.Misuse.TheVariants.{NoPlans}
 use Rattle.pylock_command.specs.declared.task.AuditQuestion.{AuditQuestion}
+use Rattle.pylock_command.specs.declared.task.CheckQuestion.{CheckQuestion}
 use Rattle.pylock_command.specs.declared.task.Comparison.{Comparison}
 use Rattle.pylock_command.specs.declared.task.Installation.{Installation}
 use Rattle.pylock_command.specs.declared.task.MatrixQuestion.{MatrixQuestion}
@@ -84,6 +85,20 @@ status_misuse rows = first (opening_misuse rows ∷ lack (codes "installed") row
     ∷ inputs_misuse (codes "LOCK") (codes "ENV") rows
     ∷ inputs_misuse (codes "LOCK") (codes "installed") rows
     ∷ inputs_misuse (codes "ENV") (codes "installed") rows ∷ [])
+
+-- ---- `check`
+
+-- the words name a lock, a machine and a project file
+abbrev pub IsCheck : List Row → CheckQuestion → Type 0
+IsCheck rows asked = IsOpening rows asked.opening × AreOptions rows asked.options.items
+    × HasText rows (codes "PROJECT") asked.project.now × (asked.form ≡ form_of rows)
+
+-- of all files one at most is standard input
+abbrev pub check_misuse : List Row → Option Misuse
+check_misuse rows = first (opening_misuse rows ∷ lack (codes "PROJECT") rows
+    ∷ inputs_misuse (codes "LOCK") (codes "ENV") rows
+    ∷ inputs_misuse (codes "LOCK") (codes "PROJECT") rows
+    ∷ inputs_misuse (codes "ENV") (codes "PROJECT") rows ∷ [])
 
 -- ---- `diff`
 

@@ -9,8 +9,9 @@ use Rattle.clap.specs.declared.error.Error.{Error}
 use Rattle.clap.specs.declared.error.kind.ErrorKind.TheVariants.{OutOfMemory}
 use Rattle.pylock_command.specs.Argument.{flag_rule, needed_rule, optional_rule, repeated_rule}
 use Rattle.pylock_command.specs.Argument.{single_rule, text_rule}
-use Rattle.pylock_command.specs.Asked.{IsAudit, IsComparison, IsMatrix, IsOpening, IsQuestion}
-use Rattle.pylock_command.specs.Asked.{IsStatus, comparison_misuse, matrix_misuse, question_misuse}
+use Rattle.pylock_command.specs.Asked.{IsAudit, IsCheck, IsComparison, IsMatrix, IsOpening}
+use Rattle.pylock_command.specs.Asked.{IsQuestion, IsStatus, check_misuse, comparison_misuse}
+use Rattle.pylock_command.specs.Asked.{matrix_misuse, question_misuse}
 use Rattle.pylock_command.specs.Asked.{select_misuse, status_misuse}
 use Rattle.pylock_command.specs.Form.{IsFilesOutput, files_output_misuse, form_of}
 use Rattle.pylock_command.specs.Machine.{IsMachine, IsTarget, machine_misuse, target_misuse}
@@ -25,7 +26,8 @@ use Rattle.pylock_command.specs.declared.task.Output.{Output}
 use Rattle.pylock_command.specs.declared.task.Output.TheVariants.{View}
 use Rattle.pylock_command.specs.declared.task.Question.{Question}
 use Rattle.pylock_command.specs.declared.task.Task.{Task}
-use Rattle.pylock_command.specs.declared.task.Task.TheVariants.{Audit, Bare, Diff, Environment}
+use Rattle.pylock_command.specs.declared.task.Task.TheVariants.{Audit, Bare, Check, Diff}
+use Rattle.pylock_command.specs.declared.task.Task.TheVariants.{Environment}
 use Rattle.pylock_command.specs.declared.task.Task.TheVariants.{Files, Marker, Matrix, Select, Show}
 use Rattle.pylock_command.specs.declared.task.Task.TheVariants.{Status, Summary}
 use Rattle.pylock_command.specs.declared.task.Task.TheVariants as task
@@ -119,6 +121,9 @@ subcommands =
     ∷ row (codes "status")
     (locked (machine_rules ++ needed_rule (codes "installed") ∷ flag_rule (codes "exact")
     ∷ option_rules ++ strict ∷ json ∷ [])) status_misuse
+    ∷ row (codes "check")
+    (locked (text_rule (codes "PROJECT") ∷ machine_rules ++ option_rules ++ strict ∷ json ∷ []))
+    check_misuse
     ∷ row (codes "show") (locked (json ∷ [])) (lack (codes "LOCK"))
     ∷ row (codes "files") (locked (format ∷ base ∷ json ∷ [])) files_misuse
     ∷ row (codes "audit") (locked (flag_rule (codes "environments") ∷ json ∷ []))
@@ -178,6 +183,7 @@ IsTask found (Select opening form) =
     IsIn found (codes "select") (λ rows. IsOpening rows opening × (form ≡ form_of rows))
 IsTask found (Matrix asked) = IsIn found (codes "matrix") (λ rows. IsMatrix rows asked)
 IsTask found (Status asked) = IsIn found (codes "status") (λ rows. IsStatus rows asked)
+IsTask found (Check asked) = IsIn found (codes "check") (λ rows. IsCheck rows asked)
 IsTask found (Summary lock form) = IsIn found (codes "show")
     (λ rows. HasText rows (codes "LOCK") lock.now × (form ≡ form_of rows))
 IsTask found (Files lock output) = IsIn found (codes "files")

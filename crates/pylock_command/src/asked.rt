@@ -1,8 +1,9 @@
 //! What the subcommands with several arguments are asked, by what clap found.
 ghost use Rattle.std.specs.Prelude.{IfOk, codes};
 ghost use Rattle.clap.specs.Words.{found_of, rows_of};
-ghost use Rattle.pylock_command.specs.Asked.{IsAudit, IsComparison, IsInstallation, IsMatrix};
-ghost use Rattle.pylock_command.specs.Asked.{IsOpening, IsQuestion, IsStatus, comparison_misuse};
+ghost use Rattle.pylock_command.specs.Asked.{IsAudit, IsCheck, IsComparison, IsInstallation};
+ghost use Rattle.pylock_command.specs.Asked.{IsMatrix, IsOpening, IsQuestion, IsStatus};
+ghost use Rattle.pylock_command.specs.Asked.{check_misuse, comparison_misuse};
 ghost use Rattle.pylock_command.specs.Asked.{installation_misuse, matrix_misuse, opening_misuse};
 ghost use Rattle.pylock_command.specs.Asked.{question_misuse, select_misuse, status_misuse};
 ghost use Rattle.pylock_command.specs.Misuse.{Refuses, RefusesUnless, lack};
@@ -12,8 +13,8 @@ use crate::machine::{machine_of, place_of};
 use crate::misuse::{Misuse, NoTask};
 use crate::options::options_of;
 use crate::task::{
-    AuditQuestion, Comparison, Installation, MatrixQuestion, Opening, Question, StatusQuestion,
-    View,
+    AuditQuestion, CheckQuestion, Comparison, Installation, MatrixQuestion, Opening, Question,
+    StatusQuestion, View,
 };
 use crate::texts::{has_flag, judge_input, judge_inputs, text_at, text_of};
 use clap::ArgMatches;
@@ -115,6 +116,28 @@ pub(crate) fn status_of<'a>(
         options,
         installed,
         exact: has_flag(found, "exact"),
+        form: form_of(found),
+    })
+}
+
+/// What `check` is asked.
+pub(crate) fn check_of<'a>(
+    alloc: Global,
+    found: &ArgMatches<'a>,
+) -> Result<CheckQuestion<'a>, NoTask>
+    ensures check { IfOk result (IsCheck (rows_of (found_of found.now))) }
+    ensures refused { RefusesUnless (check_misuse (rows_of (found_of found.now))) result }
+{
+    let opening = opening_of(found)?;
+    let project = text_of(found, "PROJECT")?;
+    judge_inputs(found, "LOCK", "ENV")?;
+    judge_inputs(found, "LOCK", "PROJECT")?;
+    judge_inputs(found, "ENV", "PROJECT")?;
+    let options = options_of(alloc, found)?;
+    Ok(CheckQuestion {
+        opening,
+        options,
+        project,
         form: form_of(found),
     })
 }

@@ -9,7 +9,9 @@ ghost use Rattle.pylock_command.specs.Commands.{Adds, IsCommand, IsLocal};
 ghost use Rattle.pylock_command.specs.Misuse.{Refuses, RefusesUnless, kind_of_misuse};
 ghost use Rattle.pylock_command.specs.Subcommand.{with_usage};
 
-use crate::asked::{audit_of, comparison_of, matrix_of, question_of, select_of, status_of};
+use crate::asked::{
+    audit_of, check_of, comparison_of, matrix_of, question_of, select_of, status_of,
+};
 use crate::form::{files_output_of, form_of};
 use crate::help::ABOUT;
 use crate::machine::{machine_of, target_of};
@@ -137,6 +139,7 @@ fn task_in<'a>(alloc: Global, name: &str, found: &ArgMatches<'a>) -> Result<Task
         "select" => Task::Select(select_of(found)?, form),
         "matrix" => Task::Matrix(matrix_of(alloc, found)?),
         "status" => Task::Status(status_of(alloc, found)?),
+        "check" => Task::Check(check_of(alloc, found)?),
         "show" => Task::Summary(text_of(found, "LOCK")?, form),
         "files" => Task::Files(text_of(found, "LOCK")?, files_output_of(found)?),
         "audit" => Task::Audit(audit_of(found)?),

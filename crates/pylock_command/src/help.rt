@@ -262,6 +262,43 @@ Status: 0, nothing is to be done; 1, something is, or the answer is a fault, or
 an option is refused; 2, the lock, the environment, FILE or the command line is
 refused; 3, a file can't be read, the output failed or memory ran out.";
 
+pub(crate) const CHECK: &str = "\
+Example, with spaces for the TABs:
+  $ pylock check pylock.toml pyproject.toml --python 3.12 --platform linux
+  differences 3
+  python  project.requires-python  -  3.8
+  missing  project.dependencies 2  requests  -
+  version  project.dependencies 3  numpy  1.26.4
+
+Prints whether a lock is still a project's: whether what plan prints is what
+PROJECT asks for. There is a line for each difference, KIND WHERE NAME DETAIL,
+with TAB between two fields, and an absent field is -. WHERE is a key of
+PROJECT, and of an element of a list its number. KIND is one of these:
+  missing  no package of this name is in the plan
+  version  its version is another than PROJECT asks for: DETAIL
+  python   PROJECT is for a Python that the lock isn't for: DETAIL
+  extra    an extra is one of the project or of the lock alone
+  group    the same of a dependency group
+  unknown  it can't be told: DETAIL says why
+
+What is asked for is what dependencies say, and what the extras and groups say
+that the options ask for, where the marker holds. The extras that a requirement
+has in brackets don't count: what they bring is the lock's own affair. A lock
+that names no extras says nothing of them, nor one without groups of groups.
+
+The options and a target are those of plan, and so is the line where the answer
+is a fault. Of LOCK, PROJECT and ENV one at most is -. With --json the answer is
+a document, whose member differences has an object for each line.
+
+A refused PROJECT prints project, TAB and one of the words not-text, toml, type,
+requires-python, requirement, name, twice, include, unknown-group and cycle, and
+behind most of them the place.
+
+Status: 0, the lock is the project's; 1, something differs, or the answer is a
+fault, or an option is refused; 2, the lock, the environment, PROJECT or the
+command line is refused; 3, a file can't be read, the output failed or memory
+ran out.";
+
 pub(crate) const SHOW: &str = "\
 Example, with spaces for the TABs:
   $ pylock show pylock.toml

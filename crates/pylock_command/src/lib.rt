@@ -36,6 +36,6 @@ pub use form::{BillFormat, FileFormat, Form, PlanFormat};
 pub use machine::{Machine, TargetWords};
 pub use option::PlanOption;
 pub use task::{
-    AuditQuestion, Comparison, FilesOutput, Installation, MatrixOutput, MatrixQuestion, Opening,
-    Output, Question, StatusQuestion, Task, TextQuestion, View,
+    AuditQuestion, CheckQuestion, Comparison, FilesOutput, Installation, MatrixOutput,
+    MatrixQuestion, Opening, Output, Question, StatusQuestion, Task, TextQuestion, View,
 };

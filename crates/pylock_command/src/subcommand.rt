@@ -120,6 +120,12 @@ const INSTALLED: Argument = Argument {
     help: "What pip inspect or pip list --format json prints",
 };
 
+const PROJECT: Argument = Argument {
+    name: "PROJECT",
+    kind: Kind::Text,
+    help: "The path of the project, a pyproject.toml, or -",
+};
+
 const EXACT: Argument = Argument {
     name: "exact",
     kind: Kind::Flag,
@@ -127,7 +133,7 @@ const EXACT: Argument = Argument {
 };
 
 /// The subcommands, in the order of the help.
-pub(crate) const SUBCOMMANDS: [Usage; 17] = [
+pub(crate) const SUBCOMMANDS: [Usage; 18] = [
     Usage {
         name: "plan",
         about: "Print what a lock installs in an environment",
@@ -173,6 +179,12 @@ pub(crate) const SUBCOMMANDS: [Usage; 17] = [
             &[STRICT, JSON],
         ],
         reply: help::STATUS,
+    },
+    Usage {
+        name: "check",
+        about: "Print whether a lock is still a project's",
+        arguments: &[&[LOCK, PROJECT, ENV], &TARGET, &CHOICES, &[STRICT, JSON]],
+        reply: help::CHECK,
     },
     Usage {
         name: "show",

@@ -133,6 +133,20 @@ pub struct StatusQuestion<'a> {
     pub form: Form,
 }
 
+/// What `check` is asked.
+#[derive(Debug, Drop)]
+pub struct CheckQuestion<'a> {
+    /// The lock and the machine.
+    pub opening: Opening<'a>,
+    /// The options.
+    pub options: Vec<PlanOption<'a>>,
+    /// The path of the project file, of which `-` is standard input. Of all paths of a question one
+    /// at most is `-`.
+    pub project: &'a str,
+    /// The form of the answer.
+    pub form: Form,
+}
+
 /// What is asked about a text by itself.
 #[derive(Clone, Copy, Debug)]
 pub enum TextQuestion<'a> {
@@ -164,6 +178,8 @@ pub enum Task<'a> {
     Matrix(MatrixQuestion<'a>),
     /// `status`, with what it is asked.
     Status(StatusQuestion<'a>),
+    /// `check`, with what it is asked.
+    Check(CheckQuestion<'a>),
     /// `show`, with the path of the lock, and the form of the answer.
     Summary(&'a str, Form),
     /// `files`, with the path of the lock, and how its sources are printed.

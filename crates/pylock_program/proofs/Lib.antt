@@ -6,3 +6,4 @@ pub mod SafeLemmas
 pub mod MatrixLemmas
 pub mod PlanLemmas
 pub mod AuditLemmas
+pub mod CheckLemmas

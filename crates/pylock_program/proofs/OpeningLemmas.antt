@@ -57,7 +57,7 @@ strictly_opened lock environment = by (strict_findings_of lock) (lock_of lock)
 -- ---- a refusal that is printed
 
 -- a cause that isn't memory
-other : (because : Cause) → is_memory because ≡ false → because ≡ out_of_memory → ⊥
+pub other : (because : Cause) → is_memory because ≡ false → because ≡ out_of_memory → ⊥
 other because not is = false≢true (sym not ∙ ap is_memory is)
 
 -- memory was refused before anything was written

@@ -10,6 +10,7 @@ pub mod Diff
 pub mod Matrix
 pub mod Bill
 pub mod Status
+pub mod Check
 pub mod Summary
 pub mod Exports
 pub mod Paths

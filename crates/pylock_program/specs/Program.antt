@@ -1,15 +1,17 @@
 -- What the program does with its task, and how it ends.
-use Rattle.std.specs.Prelude.{◌≡◌, ◌≢◌, ℕ, Bool, List, codes}
+use Rattle.std.specs.Prelude.{◌≡◌, ◌≢◌, ◌⊎◌, ℕ, Bool, List, codes}
 use Rattle.std.specs.Prelude.{Option, Some, None}
 use Rattle.std.specs.Prelude.{Result, Ok, Err}
 use Rattle.std.specs.Result.{result_map_both}
 use Rattle.pylock_command.specs.declared.form.Form.{Form}
 use Rattle.pylock_command.specs.declared.machine.Machine.{Machine}
 use Rattle.pylock_command.specs.declared.task.AuditQuestion.{AuditQuestion}
+use Rattle.pylock_command.specs.declared.task.CheckQuestion.{CheckQuestion}
 use Rattle.pylock_command.specs.declared.task.Installation.{Installation}
 use Rattle.pylock_command.specs.declared.task.Task.{Task}
 use Rattle.pylock_command.specs.declared.task.Task.TheVariants as task
-use Rattle.pylock_program.specs.Audit.{PrintsAudit}
+use Rattle.pylock_program.specs.Audit.{EndsUnwritten, PrintsAudit}
+use Rattle.pylock_program.specs.Check.{PrintsCheck, opened_check}
 use Rattle.pylock_program.specs.Diff.{locks_report, plans_report}
 use Rattle.pylock_program.specs.Matrix.{matrix_report}
 use Rattle.pylock_program.specs.Opening.{opened_by}
@@ -152,9 +154,16 @@ Compares gives form (Some asked) old new = OpensMachine gives asked.machine
     (λ read. RepliesTelling
     (λ diagnostic. plans_report form diagnostic asked.options.items old new read))
 
+-- what differs between a project and what a lock installs is printed, and standard input isn't read
+abbrev pub Checks : CheckQuestion → List ℕ → EnvironmentRead → List ℕ → Outcome
+Checks asked lock read project source source' sink sink' result =
+    Tells (λ end. PrintsCheck asked (opened_check asked lock read project) sink sink' end
+    ⊎ EndsUnwritten sink sink' end) result
+    × (source' ≡ source)
+
 -- What the program does with each task, by what reads of files may give. `select`, `plan`,
--- `explain` and `status` read the lock first, and then the environment; `status` then reads what is
--- installed.
+-- `explain`, `status` and `check` read the lock first, and then the environment; `status` then reads
+-- what is installed, and `check` the project.
 abbrev pub Performs : Reads → Task → Outcome
 Performs gives task.Bare = Greets
 Performs gives (task.Show question) =
@@ -170,6 +179,9 @@ Performs gives (task.Status asked) =
     Opens gives asked.opening.lock.now (λ lock. OpensMachine gives asked.opening.machine
     (λ read. Opens gives asked.installed.now
     (λ list. RepliesTelling (λ diagnostic. status_report asked diagnostic lock read list))))
+Performs gives (task.Check asked) =
+    Opens gives asked.opening.lock.now (λ lock. OpensMachine gives asked.opening.machine
+    (λ read. Opens gives asked.project.now (Checks asked lock read)))
 Performs gives (task.Summary lock form) =
     Opens gives lock.now
     (λ bytes. RepliesTelling (λ diagnostic. summary_report form diagnostic bytes))

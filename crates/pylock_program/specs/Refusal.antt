@@ -8,6 +8,8 @@ use Rattle.pylock_command.specs.PlanOptions.{option_words}
 use Rattle.pylock_command.specs.declared.option.PlanOption.{PlanOption}
 use Rattle.pylock_command.specs.declared.form.Form.{Form}
 use Rattle.pylock_command.specs.declared.form.Form.TheVariants.{Lines, Json}
+use Rattle.pylock_check.specs.Words.{project_place, project_word}
+use Rattle.pylock_check.specs.declared.error.ProjectError.{ProjectError}
 use Rattle.pylock_installed.specs.Words.{installed_words}
 use Rattle.pylock_installed.specs.declared.error.InstalledError.{InstalledError}
 use Rattle.pylock_messages.specs.Diagnostic.{DiagnosticValue}
@@ -63,6 +65,14 @@ installed_printed Lines diagnostic error = line_of (codes "installed") (installe
 installed_printed Json diagnostic error =
     words_json (codes "installed" ∷ installed_words error) diagnostic
 
+-- a refused project file: its word, and where it is wrong
+abbrev pub project_printed : Form → Option DiagnosticValue → ProjectError → List ℕ
+project_printed Lines diagnostic error = line_of (codes "project")
+    (project_word error ∷ option_to_list (option_map (λ p. field (Some p)) (project_place error)))
+project_printed Json diagnostic error =
+    words_json (codes "project" ∷ project_word error ∷ option_to_list (project_place error))
+    diagnostic
+
 -- an option that is refused: its word, without the dashes, and its text
 abbrev pub option_printed : Form → Option DiagnosticValue → PlanOption → List ℕ
 option_printed Lines diagnostic option =
@@ -73,6 +83,7 @@ abbrev pub cause_printed : Form → Option DiagnosticValue → Cause → List �
 cause_printed form diagnostic (cause.Unopened unopened) = unopened_printed form diagnostic unopened
 cause_printed form diagnostic (cause.Side side error) = side_printed form diagnostic side error
 cause_printed form diagnostic (cause.Installed error) = installed_printed form diagnostic error
+cause_printed form diagnostic (cause.Project error) = project_printed form diagnostic error
 cause_printed form diagnostic (cause.Option option) = option_printed form diagnostic option
 
 -- 1: an option is refused

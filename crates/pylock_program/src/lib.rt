@@ -10,6 +10,7 @@
 
 mod audit;
 mod bill;
+mod check;
 mod diagnostics;
 mod diff;
 mod export;

@@ -7,6 +7,7 @@ ghost use Rattle.pylock_program.specs.declared.failure.Failure.TheVariants as fa
 ghost use Rattle.pylock_run.specs.Report.Print.{Prints};
 
 use crate::audit::audit_lock;
+use crate::check::check_project;
 use crate::diagnostics::tell_bytes;
 use crate::diff::compare;
 use crate::failure::{Failure, program_end};
@@ -55,6 +56,7 @@ pub fn perform<F: Files, R: Source, W: Sink, N: Sink>(
         Task::Select(opening, form) => run_select(alloc, opening, form, host),
         Task::Matrix(asked) => show_matrix(alloc, &asked, host),
         Task::Status(asked) => show_status(alloc, &asked, host),
+        Task::Check(asked) => check_project(alloc, &asked, host),
         Task::Summary(lock, form) => show_summary(alloc, lock, form, host),
         Task::Files(lock, output) => list_files(alloc, lock, output, host),
         Task::Audit(asked) => audit_lock(alloc, asked, host),

@@ -14,7 +14,9 @@ ghost use Rattle.pylock_run.specs.Report.Print.{Prints};
 ghost use Rattle.pylock_run.specs.declared.report.fault.RunFault.TheVariants as fault;
 ghost use Rattle.pylock_run.specs.declared.report.opening.OpenError.TheVariants as open_error;
 
-use crate::diagnostics::refusal::{environment_refusal, findings_diagnostic, installed_diagnostic};
+use crate::diagnostics::refusal::{
+    environment_refusal, findings_diagnostic, installed_diagnostic, project_diagnostic,
+};
 use crate::diagnostics::{tell, tell_bytes};
 use crate::file::{FileBytes, MachineInput};
 use crate::host::Outputs;
@@ -23,7 +25,9 @@ use crate::options::option_words;
 use crate::text::audit::push_findings;
 use crate::text::installed::push_installed_refusal;
 use crate::text::json::{push_option_json, push_refusal_json, push_words};
+use crate::text::project::push_project_refusal;
 use pylock_audit::{Findings, LockFinding, findings_document};
+use pylock_check::ProjectError;
 use pylock_command::{Form, PlanOption};
 use pylock_core::{EnvError, LockError};
 use pylock_documents::push_document;
@@ -69,6 +73,8 @@ pub(crate) enum Cause<'a> {
     Side(Side, LockError),
     /// The list of what is installed is refused.
     Installed(InstalledError),
+    /// The project file is refused.
+    Project(ProjectError),
     /// An option is refused.
     Option(PlanOption<'a>),
 }
@@ -164,6 +170,19 @@ impl<'a> Refusal<'a> {
     {
         let diagnostic = installed_diagnostic(alloc, &error, list);
         let cause = Cause::Installed(error);
+        Refusal { cause, diagnostic }
+    }
+
+    /// A project file is refused.
+    pub(crate) fn of_project(
+        alloc: Global,
+        error: ProjectError,
+        file: &FileBytes<'_>,
+    ) -> Refusal<'a>
+        ensures { result.cause ≡ cause.Project error }
+    {
+        let diagnostic = project_diagnostic(alloc, &error, file);
+        let cause = Cause::Project(error);
         Refusal { cause, diagnostic }
     }
 
@@ -274,6 +293,7 @@ fn push_cause(
         Cause::Unopened(unopened) => push_unopened(alloc, out, form, unopened, diagnostic),
         Cause::Side(side, error) => push_side(alloc, out, (form, *side), error, diagnostic),
         Cause::Installed(error) => push_installed_refusal(alloc, out, form, error, diagnostic),
+        Cause::Project(error) => push_project_refusal(alloc, out, form, error, diagnostic),
         Cause::Option(option) => push_option(alloc, out, form, *option, diagnostic),
     }
 }

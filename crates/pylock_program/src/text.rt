@@ -6,5 +6,6 @@ pub(crate) mod explain;
 pub(crate) mod files;
 pub(crate) mod installed;
 pub(crate) mod json;
+pub(crate) mod project;
 mod safe;
 pub(crate) mod summary;

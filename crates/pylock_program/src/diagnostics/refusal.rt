@@ -3,6 +3,7 @@
 
 use crate::file::{FileBytes, Inputs, MachineInput};
 use crate::opening::Unopened;
+use pylock_check::ProjectError;
 use pylock_core::EnvError;
 use pylock_installed::InstalledError;
 use pylock_messages::{
@@ -94,6 +95,33 @@ pub(crate) fn installed_diagnostic(
             format!(in alloc; "{path}: element {place}: an earlier one has the same name")?
         }
         InstalledError::Memory => return Ok(None),
+    };
+    Ok(Some(Diagnostic::of_message(alloc, note.as_str())?))
+}
+
+/// Why a project file is refused so.
+pub(crate) fn project_diagnostic(
+    alloc: Global,
+    error: &ProjectError,
+    file: &FileBytes<'_>,
+) -> Result<Option<Diagnostic>, AllocError> {
+    let path = file.path;
+    let what = match error {
+        ProjectError::NotText => "not UTF-8",
+        ProjectError::Toml => "not TOML",
+        ProjectError::WrongType(_) => "a value of another type",
+        ProjectError::Specifiers => "requires-python is no specifier set",
+        ProjectError::Requirement(_) => "no requirement",
+        ProjectError::Name(_) => "no name",
+        ProjectError::Twice(_) => "an earlier key has the same name",
+        ProjectError::Include(_) => "an element that is no include-group",
+        ProjectError::UnknownGroup(_) => "no such group",
+        ProjectError::Cycle(_) => "a group that includes itself",
+        ProjectError::Memory => return Ok(None),
+    };
+    let note = match error.place() {
+        Some(place) => format!(in alloc; "{path}: {place}: {what}")?,
+        None => format!(in alloc; "{path}: {what}")?,
     };
     Ok(Some(Diagnostic::of_message(alloc, note.as_str())?))
 }

@@ -63,7 +63,7 @@ fn number_text(alloc: Global, number: Option<u64>) -> Result<Option<String>, All
 }
 
 /// Pushes the document of a refusal, of words in two parts.
-fn push_both(
+pub(crate) fn push_both(
     alloc: Global,
     out: &mut Vec<u8>,
     front: &[&str],

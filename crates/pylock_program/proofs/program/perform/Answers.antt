@@ -24,5 +24,8 @@ returns-in-Matrix g c = rw c.in-Matrix.is c.show_matrix.ensures
 pub returns-in-Status : goal.returns-in-Status
 returns-in-Status g c = rw c.in-Status.is c.show_status.ensures
 
+pub returns-in-Check : goal.returns-in-Check
+returns-in-Check g c = rw c.in-Check.is c.check_project.ensures
+
 pub returns-in-Summary : goal.returns-in-Summary
 returns-in-Summary g c = rw c.in-Summary.is c.show_summary.ensures
