@@ -264,11 +264,11 @@ refused; 3, a file can't be read, the output failed or memory ran out.";
 
 pub(crate) const CHECK: &str = "\
 Example, with spaces for the TABs:
-  $ pylock check pylock.toml pyproject.toml --python 3.12 --platform linux
+  $ pylock check pylock.toml pyproject.toml env.json
   differences 3
-  python  project.requires-python  -  3.8
-  missing  project.dependencies 2  requests  -
-  version  project.dependencies 3  numpy  1.26.4
+  extra  project.optional-dependencies.plot  plot  project
+  version  project.dependencies 2  certifi  2025.1.31
+  missing  project.dependencies 4  rich  -
 
 Prints whether a lock is still a project's: whether what plan prints is what
 PROJECT asks for. There is a line for each difference, KIND WHERE NAME DETAIL,

@@ -4,6 +4,7 @@ ghost use Rattle.std.specs.Prelude.{◌≡◌, ◌++◌, ◌∷◌, OnOk, Some, 
 ghost use Rattle.std.specs.Option.{option_copied};
 ghost use Rattle.pylock_check.specs.Words.{project_place, project_word};
 ghost use Rattle.pylock_program.specs.Refusal.{project_printed};
+ghost use Rattle.pylock_program.specs.Text.Json.{words_json};
 ghost use Rattle.pylock_run.specs.Text.Field.{field, line_of};
 
 use crate::text::json::push_both;
@@ -24,12 +25,27 @@ pub(crate) fn push_project_refusal(
     ensures { OnOk result (out.new.items ≡ out.old.items
         ++ project_printed form (option_copied diagnostic.entry) error.now) }
 {
-    match (form, error.place()) {
-        (Form::Lines, _) => push_line(out, error),
-        (Form::Json, Some(place)) => {
-            push_both(alloc, out, &["project"], &[error.word(), place], diagnostic)
-        }
-        (Form::Json, None) => push_both(alloc, out, &["project"], &[error.word()], diagnostic),
+    match form {
+        Form::Lines => push_line(out, error),
+        Form::Json => push_words(alloc, out, error.word(), error.place(), diagnostic),
+    }
+}
+
+/// Pushes the document of the refusal's word, and of the place that there may be.
+fn push_words<'a>(
+    alloc: Global,
+    out: &mut Vec<u8>,
+    word: &'a str,
+    place: Option<&'a str>,
+    diagnostic: Option<&Diagnostic>,
+) -> Result<(), AllocError>
+    ensures { OnOk result (out.new.items ≡ out.old.items
+        ++ words_json (codes "project" ∷ word.now ∷ option_to_list (option_copied place.entry))
+        (option_copied diagnostic.entry)) }
+{
+    match place {
+        Some(place) => push_both(alloc, out, &["project"], &[word, place], diagnostic),
+        None => push_both(alloc, out, &["project"], &[word], diagnostic),
     }
 }
 
