@@ -162,8 +162,8 @@ Checks asked lock read project source source' sink sink' result =
     × (source' ≡ source)
 
 -- What the program does with each task, by what reads of files may give. `select`, `plan`,
--- `explain`, `status` and `check` read the lock first, and then the environment; `status` then reads
--- what is installed, and `check` the project.
+-- `explain`, `status` and `check` read the lock first, and then the environment; then `status`
+-- reads what is installed, and `check` the project.
 abbrev pub Performs : Reads → Task → Outcome
 Performs gives task.Bare = Greets
 Performs gives (task.Show question) =

@@ -1,7 +1,7 @@
 -- What is printed in place of an answer, as a line or as a document. A document may tell more than
 -- the words of the line, such as where a file is wrong.
 use Rattle.std.specs.Prelude.{ℕ, Bool, true, false, List, [], ◌∷◌, codes, Option, Some, None}
-use Rattle.std.specs.Prelude.{Result, Ok, Err}
+use Rattle.std.specs.Prelude.{Result, Ok, Err, option_map, option_to_list}
 use Rattle.std.specs.Result.{result_map_both}
 use Rattle.pytext.specs.Agreement.{Gives}
 use Rattle.pylock_command.specs.PlanOptions.{option_words}
