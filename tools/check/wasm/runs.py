@@ -104,7 +104,7 @@ class Maker:
         return ["--json"] if self.random.random() < 0.4 else []
 
     def words(self, files):
-        kind = self.random.choice(["plan", "plan", "explain", "matrix", "select", "files", "audit", "diff", "environment", "texts", "marker", "help"])
+        kind = self.random.choice(["plan", "plan", "explain", "matrix", "select", "files", "audit", "show", "diff", "environment", "texts", "marker", "help"])
         lock = lambda: self.file(files, self.locks)
         if kind in ("plan", "explain"):
             words = [kind, lock(), *self.machine(files), *self.options()]
@@ -113,6 +113,8 @@ class Maker:
             return [kind, lock(), *self.targets(), *self.options(), *self.some(["--no-build"], 0, 1)]
         if kind == "select":
             return [kind, lock(), *self.machine(files), *self.flag()]
+        if kind == "show" or kind == "audit" and self.random.random() < 0.3:
+            return [kind, lock(), *self.flag(), *(["--environments"] if kind == "audit" else [])]
         if kind in ("files", "audit"):
             return [kind, lock(), *self.flag(), *(["--format", self.random.choice(FORMS)] if self.random.random() < 0.2 else [])]
         if kind == "diff":
@@ -122,7 +124,7 @@ class Maker:
         if kind == "marker":
             return [kind, self.random.choice(MARKERS), *self.machine(files), *self.flag()]
         if kind == "help":
-            command = self.random.choice(["plan", "explain", "matrix", "select", "files", "audit", "diff", "environment", "version", "match", "name", "marker", "x"])
+            command = self.random.choice(["plan", "explain", "matrix", "select", "status", "check", "show", "files", "audit", "diff", "environment", "version", "match", "name", "marker", "x"])
             return self.random.choice([["help", command], [command, "--help"], ["--help"], ["-V"], [], [command], ["help"], ["--nope"]])
         command, *texts = self.random.choice([
             ("version", VERSIONS), ("match", SETS, VERSIONS), ("name", NAMES), ("requirement", REQUIREMENTS), ("wheel", WHEELS), ("sdist", SDISTS)
