@@ -1,9 +1,10 @@
-//! Cases of places in a lock and of SARIF documents: where an entry and a key stand, and what a
-//! document has.
+//! Cases of places in a lock, of SARIF documents and of a project's settings: where an entry and a
+//! key stand, what a document has, and what a project file says of an audit.
 #![tactic(auto)]
 
 mod places;
 mod sarif;
+mod settings;
 
 use case_files::{Answers, print_files};
 use std::alloc::Global;
@@ -19,6 +20,7 @@ impl Answers for Cases {
             "places" => places::answer_case(alloc, case),
             "rules" => sarif::tell_rules(alloc),
             "sarif" => sarif::answer_case(alloc, case),
+            "settings" => settings::answer_case(alloc, case),
             _ => Err(anyhow::anyhow!("no kind of case")),
         }
     }

@@ -2,7 +2,7 @@
 
 use case_files::text;
 use pylock_sarif::{Level, RULES, Rule, Run, SarifResult, TextPlace, rule_of, sarif_document};
-use std::alloc::Global;
+use std::alloc::{AllocError, Global};
 use toml::{Table, Value};
 
 /// Each rule with its level.
@@ -19,25 +19,24 @@ pub(crate) fn tell_rules(alloc: Global) -> anyhow::Result<String> {
 pub(crate) fn answer_case(alloc: Global, case: &Table) -> anyhow::Result<String> {
     let lock = text(alloc, case, "lock")?;
     let word = text(alloc, case, "rule")?;
-    let message = text(alloc, case, "message")?;
+    let description = text(alloc, case, "description")?;
     let name = text(alloc, case, "package")?;
     let detail = text(alloc, case, "detail")?;
-    let found = SarifResult {
-        rule: word.as_str(),
-        level: rule_of(word.as_str()).map_or(Level::Warning, |rule| rule.level),
-        message: message.as_str(),
-        number: number(case, "number"),
-        name: there(name.as_str()),
-        detail: there(detail.as_str()),
-        place: place(case),
-    };
     let mut rules: Vec<Rule> = Vec::new(alloc);
     if let Some(rule) = rule_of(word.as_str()) {
         rules.push(*rule)?;
     }
     let mut results = Vec::new(alloc);
     for _ in 0..number(case, "times") {
-        results.push(found)?;
+        results.push(SarifResult {
+            rule: word.as_str(),
+            level: rule_of(word.as_str()).map_or(Level::Warning, |rule| rule.level),
+            description: description.as_str(),
+            number: number(case, "number"),
+            name: there(name.as_str()),
+            detail: owned(alloc, detail.as_str())?,
+            place: place(case),
+        })?;
     }
     print(alloc, lock.as_str(), rules.as_slice(), results.as_slice())
 }
@@ -68,6 +67,13 @@ fn number(case: &Table, key: &str) -> u64 {
     match case.get(key) {
         Some(Value::Integer(number)) => u64::try_from(*number).unwrap_or(0),
         _ => 0,
+    }
+}
+
+fn owned(alloc: Global, text: &str) -> Result<Option<String>, AllocError> {
+    match there(text) {
+        Some(text) => Ok(Some(String::from_str(alloc, text)?)),
+        None => Ok(None),
     }
 }
 

@@ -1,0 +1,4 @@
+mod AbsentLemmas
+mod KeyLemmas
+mod TextLemmas
+mod NeverMemory
