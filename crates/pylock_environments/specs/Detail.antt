@@ -1,6 +1,6 @@
 -- What a person is told of a finding.
 use Rattle.std.specs.Prelude.{◌≡◌, ℕ, ◌==◌, ◌||◌, ◌++◌, Bool, List, [], codes, Option, Some, None}
-use Rattle.std.specs.Prelude.{if◌then◌else◌}
+use Rattle.std.specs.Prelude.{if◌then◌else◌, option_map}
 use Rattle.std.specs.Char.{encode_utf8, is_ascii_alphanumeric}
 use Rattle.std.specs.Fmt.{decimal}
 use Rattle.std.specs.List.{flat_map, list_all}
@@ -11,6 +11,7 @@ use Rattle.pymark_core.specs.Variables.{variable_name, variables}
 use Rattle.pymark_core.specs.declared.variable.Var.{Var}
 use Rattle.pymark_core.specs.declared.variable.Var.TheVariants.{PythonFullVersion}
 use Rattle.pylock_shown.specs.Hidden.{hidden}
+use Rattle.pylock_environments.specs.Releases.{is_release}
 use Rattle.pylock_environments.specs.declared.finding.Found.{Found}
 use Rattle.pylock_environments.specs.declared.finding.Found.TheVariants.{Clash, MayClash, Never}
 use Rattle.pylock_environments.specs.declared.finding.Found.TheVariants.{MayNever}
@@ -59,13 +60,19 @@ pub record AreWordsOf (environment : EnvironmentValue) (words : List ℕ) : Type
 
 -- ---- the detail of a finding
 
+-- the version of a Python, and whether CPython has no such release
+abbrev pub python_words : List ℕ → List ℕ
+python_words version =
+    if is_release version then version else version ++ codes " (no known release)"
+
 -- the number of the other entry, and of a clash the words of its environment; the version of the
 -- Python that an entry doesn't admit
 abbrev pub IsDetail : Found → Option (List ℕ) → Type 0
 IsDetail (Clash other environment) detail =
     (words : List ℕ) × AreWordsOf environment words × (detail ≡ Some (decimal other ++ words))
 IsDetail (MayClash other) detail = detail ≡ Some (decimal other)
-IsDetail (NarrowerPython environment) detail = detail ≡ variable_in PythonFullVersion environment
+IsDetail (NarrowerPython environment) detail =
+    detail ≡ option_map python_words (variable_in PythonFullVersion environment)
 IsDetail Never detail = detail ≡ None
 IsDetail MayNever detail = detail ≡ None
 IsDetail MayBeNarrower detail = detail ≡ None

@@ -1,6 +1,6 @@
 -- What serves contracts inside the crate alone.
-use Rattle.std.specs.Prelude.{◌≡◌, ℕ, ◌<◌, false, List, [], ◌∷◌, ◌++◌, map, take, Option, Some}
-use Rattle.std.specs.Prelude.{None}
+use Rattle.std.specs.Prelude.{◌≡◌, ℕ, ◌<◌, ◌==◌, ◌&&◌, ◌||◌, not, Bool, false, List, [], ◌∷◌, ◌++◌}
+use Rattle.std.specs.Prelude.{length, slice_index, map, take, Option, Some, None}
 use Rattle.std.specs.Borrow.{Bor}
 use Rattle.std.specs.BTreeMap.{BTreeMap, get_by}
 use Rattle.std.specs.Cmp.Lexicographic.{slice_cmp}
@@ -10,6 +10,7 @@ use Rattle.std.specs.Option.{option_map_or}
 use Rattle.std.specs.Ordering.{nat_cmp}
 use Rattle.std.specs.Str.{bytes_eq}
 use Rattle.std.specs.declared.vec.Vec.{Vec}
+use Rattle.pytext.specs.Digits.{is_number}
 use Rattle.pyver_core.specs.declared.set.specifier.Specifier.{Specifier}
 use Rattle.pymark_core.specs.Environment.{EnvironmentValue}
 use Rattle.pymark_algebra.specs.Questions.{AllHave, AllSay, PythonSays}
@@ -131,3 +132,10 @@ pub record AreBefore (head : HeadValue) (entries : List EntryValue) (end : ℕ)
       → IsClear head entries number entry row
   pub rise : Rises 0 (map place_of findings)
   pub below : All (λ finding. place_of finding < end) findings
+
+-- ---- numbers in a text
+
+-- digits, one or more, without a zero in front of others
+abbrev pub is_plain_number : List ℕ → Bool
+is_plain_number digits =
+    is_number digits && ((length digits == 1) || not (slice_index digits 0 == 48))

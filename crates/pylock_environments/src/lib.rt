@@ -21,6 +21,7 @@ mod findings;
 pub mod laws;
 mod lock;
 mod names;
+mod releases;
 mod rows;
 mod shell;
 mod sought;
