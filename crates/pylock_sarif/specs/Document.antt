@@ -1,6 +1,6 @@
 -- A run as a SARIF document (SARIF 2.1.0, whose sections are named below).
 use Rattle.std.specs.Prelude.{ℕ, ◌++◌, ◌-◌, codes, decimal, length, List, [], ◌∷◌, map, take}
-use Rattle.std.specs.Prelude.{Option, Some, if◌then◌else◌, nat_lt, option_map, true}
+use Rattle.std.specs.Prelude.{Option, Some, if◌then◌else◌, nat_lt, option_map, string_bytes, true}
 use Rattle.std.specs.Option.{option_copied, option_map_or}
 use Rattle.serde_json.specs.Data.{Data}
 use Rattle.pylock_json.specs.Json.{Row, list_of, numbered, object_of, there, truth}
@@ -58,17 +58,27 @@ location_data lock place =
 abbrev pub behind_colon : Option (List ℕ) → List ℕ
 behind_colon text = codes ":" ++ option_map_or (λ bytes. bytes) text []
 
+-- a text between two others, where it is there
+abbrev pub between : List ℕ → Option (List ℕ) → List ℕ → List ℕ
+between before text behind = option_map_or (λ bytes. before ++ bytes ++ behind) text []
+
+-- what a person is told: what the rule finds, and behind it the name and the detail
+abbrev pub message : SarifResult → List ℕ
+message found = found.description.now
+    ++ between (codes " ") (option_copied found.name) []
+    ++ between (codes " (") (option_map string_bytes found.detail) (codes ")")
+
 -- what stays the same where the text of the lock moves: the rule, the name and the detail
 abbrev pub fingerprint : SarifResult → List ℕ
 fingerprint found =
     found.rule.now ++ behind_colon (option_copied found.name)
-    ++ behind_colon (option_copied found.detail)
+    ++ behind_colon (option_map string_bytes found.detail)
 
 unfoldable pub result_rows : List ℕ → SarifResult → List Row
 result_rows lock found =
     (codes "ruleId", there found.rule.now)
     ∷ (codes "level", there (level_word found.level))
-    ∷ (codes "message", Some (text_data found.message.now))
+    ∷ (codes "message", Some (text_data (message found)))
     ∷ (codes "locations", Some (list_of (location_data lock found.place ∷ [])))
     ∷ (
       codes "partialFingerprints",

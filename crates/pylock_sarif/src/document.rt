@@ -7,7 +7,8 @@ ghost use Rattle.pylock_json.specs.Json.{members_of};
 ghost use Rattle.pylock_sarif.specs.Document.{driver_data, file_data, fingerprint};
 ghost use Rattle.pylock_sarif.specs.Document.{invocation_data, left_out, location_data};
 ghost use Rattle.pylock_sarif.specs.Document.{most_results, notification_data, notifications};
-ghost use Rattle.pylock_sarif.specs.Document.{behind_colon, region_data, result_data, rule_data};
+ghost use Rattle.pylock_sarif.specs.Document.{behind_colon, between, message, region_data};
+ghost use Rattle.pylock_sarif.specs.Document.{result_data, rule_data};
 ghost use Rattle.pylock_sarif.specs.Document.{run_rows, sarif_rows, text_data};
 ghost use Rattle.pylock_sarif.specs.Document.{tool_data};
 ghost use Rattle.serde_json.specs.Data.{object};
@@ -173,7 +174,8 @@ fn results_list(alloc: Global, lock: &str, results: &[SarifResult<'_>]) -> Resul
 fn result_object(alloc: Global, lock: &str, found: &SarifResult<'_>) -> Result<Json, AllocError>
     ensures { IfOk result (λ json. data_of json ≡ result_data lock.now found.now) }
 {
-    let message = text_object(alloc, found.message)?;
+    let message = message_of(alloc, found)?;
+    let message = text_object(alloc, message.as_str())?;
     let mut locations = List::new(alloc);
     locations.push(location_object(alloc, lock, found.place)?)?;
     let fingerprint = fingerprint_of(alloc, found)?;
@@ -191,13 +193,41 @@ fn result_object(alloc: Global, lock: &str, found: &SarifResult<'_>) -> Result<J
     Ok(object.into_json())
 }
 
+/// What a person is told.
+fn message_of(alloc: Global, found: &SarifResult<'_>) -> Result<String, AllocError>
+    ensures { IfOk result (λ text. string_bytes text ≡ message found.now) }
+{
+    let mut text = String::from_str(alloc, found.description)?;
+    push_between(&mut text, " ", found.name, "")?;
+    push_between(&mut text, " (", found.detail.as_deref(), ")")?;
+    Ok(text)
+}
+
+/// Adds a text, where it is there, between these two.
+fn push_between(
+    out: &mut String,
+    before: &str,
+    text: Option<&str>,
+    behind: &str,
+) -> Result<(), AllocError>
+    ensures { OnOk result (string_bytes out.new ≡ string_bytes out.old
+        ++ between before.now (option_copied text.entry) behind.now) }
+{
+    let Some(text) = text else {
+        return Ok(());
+    };
+    out.push_str(before)?;
+    out.push_str(text)?;
+    out.push_str(behind)
+}
+
 /// What stays the same where the text of the lock moves.
 fn fingerprint_of(alloc: Global, found: &SarifResult<'_>) -> Result<String, AllocError>
     ensures { IfOk result (λ text. string_bytes text ≡ fingerprint found.now) }
 {
     let mut text = String::from_str(alloc, found.rule)?;
     push_part(&mut text, found.name)?;
-    push_part(&mut text, found.detail)?;
+    push_part(&mut text, found.detail.as_deref())?;
     Ok(text)
 }
 

@@ -16,20 +16,20 @@ pub struct Run<'a> {
 }
 
 /// What was found at one place.
-#[derive(Clone, Copy)]
+#[derive(Drop)]
 pub struct SarifResult<'a> {
     /// The word of its rule.
     pub rule: &'a str,
     /// How severe it is.
     pub level: Level,
-    /// What a person is told.
-    pub message: &'a str,
+    /// What the rule finds, in one sentence. A person is told it with the name and the detail.
+    pub description: &'a str,
     /// The number of the entry, from 1; of the head it is 0.
     pub number: u64,
     /// The name of the entry; the head has none.
     pub name: Option<&'a str>,
     /// What the finding names besides the entry.
-    pub detail: Option<&'a str>,
+    pub detail: Option<String>,
     /// Where it stands in the text, where that is known.
     pub place: Option<TextPlace>,
 }
