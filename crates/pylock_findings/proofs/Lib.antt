@@ -1,2 +1,3 @@
+pub mod AllLemmas
 pub mod LineLemmas
 pub mod MergingLemmas

@@ -1,3 +1,4 @@
+pub mod All
 pub mod Environments
 pub mod Host
 pub mod Inner

@@ -6,15 +6,14 @@
 //! What is found in a lock and in its environments, from `crates/pylock_program/src/audit.rt`:
 //!
 //! ```rust
-//! let others = environment_lines(alloc, lock)?;
-//! let all = merged(alloc, found, others)?;
-//! write_findings(alloc, form, &all, writer)
+//! let environments = asked.environments || settings.environments();
+//! all_found(alloc, lock, found, environments, &index, &hosts)
 //! ```
 //!
-//! The lines of [`vulnerable_lines`] and [`host_lines`] stand beside those of `pylock_audit` too. A
-//! [`Policy`] says which of all findings count, and which fail.
+//! A [`Policy`] says which of all findings count, and which fail.
 #![tactic(auto)]
 
+mod all;
 mod environments;
 mod host;
 mod lines;
@@ -22,6 +21,7 @@ mod merging;
 mod policy;
 mod vulnerable;
 
+pub use all::all_found;
 pub use environments::environment_lines;
 pub use host::host_lines;
 pub use merging::merged;
