@@ -1,3 +1,5 @@
 pub mod PlanOptionLemmas
 pub mod BaseLemmas
 pub mod ClapLemmas
+pub mod InputLemmas
+pub mod NamedLemmas

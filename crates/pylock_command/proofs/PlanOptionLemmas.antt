@@ -7,7 +7,7 @@ use Rattle.std.specs.Option.{UnwrapsOrElse}
 use Rattle.clap.proofs.WalkLemmas.{raw_values-rows}
 use Rattle.clap.specs.Words.{Row, Text, matched_of, raw_values, rows_of}
 use Rattle.clap.specs.declared.parser.matches.Found.{Found}
-use Rattle.pylock_command.specs.PlanOptions.{AreOptions, AreOnFiles, Interleaves, OptionWords, texts_at, texts_of, has_plan_options, has_one, on_extras, on_groups, option_words}
+use Rattle.pylock_command.specs.PlanOptions.{AreOptions, AreOnFiles, Interleaves, OptionWords, texts_at, texts_of, has_plan_options, has_one, on_extras, on_groups, on_plan, option_words}
 use Rattle.pylock_command.specs.declared.option.PlanOption.{PlanOption}
 
 -- an option with the text behind a reference
@@ -131,7 +131,7 @@ has_one-told rows options are =
     let groups = on_groups rows in
     let wheels = texts_of (codes "only-binary") rows in
     let sources = texts_of (codes "no-binary") rows in
-    let sets = texts_of (codes "set") rows in
+    let sets = on_plan rows in
     let files : has_one are.on_files ≡ (has_one wheels || has_one sources) = has_one-interleaved wheels sources are.on_files are.are_on_files in
     let some = extras ++ groups in
     ap has_one are.in_order

@@ -1,17 +1,20 @@
 -- What the subcommands with several arguments are asked, in clap's terms, and when their words are
 -- refused.
-use Rattle.std.specs.Prelude.{◌≡◌, List, [], ◌∷◌, Option, Some, None, codes, false, true}
-use Rattle.std.specs.Prelude.{if◌then◌else◌, option_map}
+use Rattle.std.specs.Prelude.{◌≡◌, ◌++◌, ℕ, Bool, List, [], ◌∷◌, Option, Some, None, codes, false}
+use Rattle.std.specs.Prelude.{filter, if◌then◌else◌, length, map, nat_lt, option_map}
+use Rattle.std.specs.Prelude.{option_to_list, true}
 use Rattle.std.specs.Borrow.{Bor}
+use Rattle.std.specs.Str.{bytes_eq}
 use Rattle.clap.specs.Words.{Row, Text, first_of}
-use Rattle.pylock_command.specs.PlanOptions.{AreOptions, has_plan_options}
-use Rattle.pylock_command.specs.Form.{IsMatrixOutput, IsOutput, form_of, matrix_output_misuse}
+use Rattle.pylock_command.specs.PlanOptions.{AreOptions, has_plan_options, texts_at}
+use Rattle.pylock_command.specs.Form.{IsAuditOutput, IsMatrixOutput, IsOutput}
+use Rattle.pylock_command.specs.Form.{audit_output_misuse, form_of, matrix_output_misuse}
 use Rattle.pylock_command.specs.Form.{output_misuse}
 use Rattle.pylock_command.specs.Machine.{IsMachine, machine_misuse, names_none, place_misuse}
 use Rattle.pylock_command.specs.Misuse.{first, lack}
 use Rattle.pylock_command.specs.Texts.{HasText, has_flag, input_misuse, inputs_misuse}
 use Rattle.pylock_command.specs.declared.misuse.Misuse.{Misuse}
-use Rattle.pylock_command.specs.declared.misuse.Misuse.TheVariants.{NoPlans}
+use Rattle.pylock_command.specs.declared.misuse.Misuse.TheVariants.{NoPlans, TwoInputs}
 use Rattle.pylock_command.specs.declared.task.AuditQuestion.{AuditQuestion}
 use Rattle.pylock_command.specs.declared.task.CheckQuestion.{CheckQuestion}
 use Rattle.pylock_command.specs.declared.task.Comparison.{Comparison}
@@ -66,10 +69,39 @@ matrix_misuse rows = first (lack (codes "LOCK") rows ∷ matrix_output_misuse ro
 
 -- ---- `audit`
 
--- the words name a lock
+-- a repeated argument has these texts, in order
+abbrev pub HasTexts : List Row → Text → List (Bor Text) → Type 0
+HasTexts rows id texts = map (λ text. text.now) texts ≡ texts_at id rows
+
+-- the words name a lock, and may name more
 abbrev pub IsAudit : List Row → AuditQuestion → Type 0
 IsAudit rows asked = HasText rows (codes "LOCK") asked.lock.now
-    × (asked.environments ≡ has_flag (codes "environments") rows) × (asked.form ≡ form_of rows)
+    × (asked.environments ≡ has_flag (codes "environments") rows)
+    × HasTexts rows (codes "advisories") asked.advisories.items
+    × HasTexts rows (codes "host") asked.hosts.items
+    × MayHave rows (codes "fail-on") asked.fail_on
+    × HasTexts rows (codes "ignore") asked.ignored.items
+    × MayHave rows (codes "config") asked.config × IsAuditOutput rows asked.output
+
+-- the files that are read, of which one at most is standard input
+abbrev pub audit_paths : List Row → List Text
+audit_paths rows = (texts_at (codes "advisories") rows
+    ++ option_to_list (first_of (codes "LOCK") rows))
+    ++ option_to_list (first_of (codes "config") rows)
+
+abbrev pub is_dash : Text → Bool
+is_dash path = bytes_eq path (codes "-")
+
+abbrev pub input_count : List Text → ℕ
+input_count paths = length (filter is_dash paths)
+
+abbrev pub audit_inputs_misuse : List Row → Option Misuse
+audit_inputs_misuse rows =
+    if nat_lt 1 (input_count (audit_paths rows)) then Some TwoInputs else None
+
+abbrev pub audit_misuse : List Row → Option Misuse
+audit_misuse rows = first (lack (codes "LOCK") rows ∷ audit_output_misuse rows
+    ∷ audit_inputs_misuse rows ∷ [])
 
 -- ---- `status`
 

@@ -3,14 +3,15 @@ use Rattle.std.specs.Prelude.{◌≡◌, ◌≢◌, ◌⊎◌, ⊤, true, codes,
 use Rattle.std.specs.Prelude.{find, Option, Some, None, IsSomeAnd, fold}
 use Rattle.std.specs.Option.{option_map_or}
 use Rattle.std.specs.Str.{bytes_eq}
-use Rattle.clap.specs.Words.{App, IsAmong, Row, Rule, Text, fault_of, kind_of, new_app}
-use Rattle.clap.specs.Words.{subcommand_of, with_subcommand}
+use Rattle.clap.specs.Words.{App, IsAmong, Row, Rule, Text, fault_of, is_simple_and_free, kind_of}
+use Rattle.clap.specs.Words.{new_app, subcommand_of, with_subcommand}
 use Rattle.clap.specs.declared.error.Error.{Error}
 use Rattle.clap.specs.declared.error.kind.ErrorKind.TheVariants.{OutOfMemory}
 use Rattle.pylock_command.specs.Argument.{flag_rule, needed_rule, optional_rule, repeated_rule}
 use Rattle.pylock_command.specs.Argument.{single_rule, text_rule}
 use Rattle.pylock_command.specs.Asked.{IsAudit, IsCheck, IsComparison, IsMatrix, IsOpening}
-use Rattle.pylock_command.specs.Asked.{IsQuestion, IsStatus, check_misuse, comparison_misuse}
+use Rattle.pylock_command.specs.Asked.{IsQuestion, IsStatus, audit_misuse, check_misuse}
+use Rattle.pylock_command.specs.Asked.{comparison_misuse}
 use Rattle.pylock_command.specs.Asked.{matrix_misuse, question_misuse}
 use Rattle.pylock_command.specs.Asked.{select_misuse, status_misuse}
 use Rattle.pylock_command.specs.Form.{IsFilesOutput, files_output_misuse, form_of}
@@ -62,6 +63,11 @@ option_rules = flag_rule (codes "all-extras") ∷ repeated_rule (codes "extra")
     ∷ repeated_rule (codes "only-binary") ∷ repeated_rule (codes "no-binary")
     ∷ repeated_rule (codes "set") ∷ []
 
+-- what is left of a plan
+abbrev pub left_rules : List Rule
+left_rules = repeated_rule (codes "only") ∷ repeated_rule (codes "except")
+    ∷ flag_rule (codes "no-project") ∷ []
+
 abbrev pub json : Rule
 json = flag_rule (codes "json")
 
@@ -110,7 +116,8 @@ text_subcommands =
 abbrev pub subcommands : List Subcommand
 subcommands =
     row (codes "plan")
-    (locked (machine_rules ++ option_rules ++ strict ∷ format ∷ created ∷ base ∷ json ∷ []))
+    (locked (machine_rules ++ option_rules ++ left_rules
+    ++ strict ∷ format ∷ created ∷ base ∷ json ∷ []))
     (question_misuse Plan)
     ∷ row (codes "explain") (locked (machine_rules ++ option_rules ++ strict ∷ json ∷ []))
     (question_misuse Explain)
@@ -126,8 +133,11 @@ subcommands =
     check_misuse
     ∷ row (codes "show") (locked (json ∷ [])) (lack (codes "LOCK"))
     ∷ row (codes "files") (locked (format ∷ base ∷ json ∷ [])) files_misuse
-    ∷ row (codes "audit") (locked (flag_rule (codes "environments") ∷ json ∷ []))
-    (lack (codes "LOCK"))
+    ∷ row (codes "audit")
+    (locked (flag_rule (codes "environments") ∷ repeated_rule (codes "advisories")
+    ∷ repeated_rule (codes "host") ∷ single_rule (codes "fail-on")
+    ∷ repeated_rule (codes "ignore") ∷ single_rule (codes "config") ∷ format ∷ json ∷ []))
+    audit_misuse
     ∷ row (codes "diff") (text_rule (codes "OLD") ∷ text_rule (codes "NEW") ∷ in_rules
     ++ option_rules ++ json ∷ []) comparison_misuse
     ∷ row (codes "environment")
@@ -136,6 +146,13 @@ subcommands =
 
 unfoldable pub pylock_app : App
 pylock_app = fold (λ app s. with_subcommand app (subcommand_app s).top) top_app subcommands
+
+-- A command by which clap makes of these words what it makes of them by the program's, and of which
+-- it tells what that is. It may know fewer subcommands.
+pub record IsEnough (words : List Text) (app : App) : Type 0 where
+  pub tells : is_simple_and_free app ≡ true
+  pub same_faults : fault_of app words ≡ fault_of pylock_app words
+  pub same_subcommand : subcommand_of app words ≡ subcommand_of pylock_app words
 
 -- why the words of a subcommand that clap takes are refused; one that is none of the program's is
 abbrev pub misuse_among : List Subcommand → Text → List Row → Option Misuse

@@ -7,7 +7,6 @@ use Rattle.pylock_command.specs.Base.{IsBase, base_misuse}
 use Rattle.pylock_command.specs.Created.{is_created}
 use Rattle.pylock_command.specs.Misuse.{first}
 use Rattle.pylock_command.specs.Texts.{HasText, has_flag}
-use Rattle.pylock_command.specs.declared.form.BillFormat.{BillFormat}
 use Rattle.pylock_command.specs.declared.form.BillFormat.TheVariants as bill
 use Rattle.pylock_command.specs.declared.form.FileFormat.{FileFormat}
 use Rattle.pylock_command.specs.declared.form.FileFormat.TheVariants.{Aria2, Sha256sum, Urls}
@@ -20,8 +19,11 @@ use Rattle.pylock_command.specs.declared.form.PlanFormat.TheVariants.{Files, Req
 use Rattle.pylock_command.specs.declared.form.PlanFormat.TheVariants.{RequirementsLocal}
 use Rattle.pylock_command.specs.declared.misuse.Misuse.{Misuse}
 use Rattle.pylock_command.specs.declared.misuse.Misuse.TheVariants.{BadTime, FormatOfRows}
-use Rattle.pylock_command.specs.declared.misuse.Misuse.TheVariants.{NoFileFormat, NoPlanFormat}
+use Rattle.pylock_command.specs.declared.misuse.Misuse.TheVariants.{NoAuditFormat, NoFileFormat}
+use Rattle.pylock_command.specs.declared.misuse.Misuse.TheVariants.{NoPlanFormat}
 use Rattle.pylock_command.specs.declared.misuse.Misuse.TheVariants.{NoTime, StrayTime, TwoForms}
+use Rattle.pylock_command.specs.declared.task.AuditOutput.{AuditOutput}
+use Rattle.pylock_command.specs.declared.task.AuditOutput.TheVariants as audit
 use Rattle.pylock_command.specs.declared.task.FilesOutput.{FilesOutput}
 use Rattle.pylock_command.specs.declared.task.FilesOutput.TheVariants as files
 use Rattle.pylock_command.specs.declared.task.MatrixOutput.{MatrixOutput}
@@ -90,6 +92,14 @@ IsFilesOutput rows (files.Tool format base) =
     IsFormat file_format_named rows (Some format) × IsBase rows base
 IsFilesOutput rows (files.Shown form) = (form ≡ form_of rows) × (format_word rows ≡ None)
 
+-- the forms of `audit` that other tools take, by their words
+abbrev pub audit_form_named : Text → Option AuditOutput
+audit_form_named word = if bytes_eq word (codes "sarif") then Some audit.Sarif else None
+
+abbrev pub IsAuditOutput : List Row → AuditOutput → Type 0
+IsAuditOutput rows (audit.Shown form) = (form ≡ form_of rows) × (format_word rows ≡ None)
+IsAuditOutput rows audit.Sarif = format_at audit_form_named rows ≡ Some audit.Sarif
+
 -- of `matrix` files where the words have the flag, and else rows
 abbrev pub IsMatrixOutput : List Row → MatrixOutput → Type 0
 IsMatrixOutput rows (matrix.Files output) =
@@ -136,6 +146,9 @@ output_misuse Explain rows = None
 abbrev pub files_output_misuse : List Row → Option Misuse
 files_output_misuse rows =
     first (format_misuse file_format_named NoFileFormat rows ∷ base_misuse rows ∷ [])
+
+abbrev pub audit_output_misuse : List Row → Option Misuse
+audit_output_misuse rows = format_misuse audit_form_named NoAuditFormat rows
 
 -- no tool takes the rows of a matrix
 abbrev pub matrix_output_misuse : List Row → Option Misuse

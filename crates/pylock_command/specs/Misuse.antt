@@ -10,7 +10,8 @@ use Rattle.pylock_command.specs.declared.misuse.Misuse.{Misuse}
 use Rattle.pylock_command.specs.declared.misuse.Misuse.TheVariants.{BadTime, EditsAndFile}
 use Rattle.pylock_command.specs.declared.misuse.Misuse.TheVariants.{FormatOfRows, HalfTarget}
 use Rattle.pylock_command.specs.declared.misuse.Misuse.TheVariants.{Missing, NoBase, NoFileFormat}
-use Rattle.pylock_command.specs.declared.misuse.Misuse.TheVariants.{NoMachine, NoPlanFormat}
+use Rattle.pylock_command.specs.declared.misuse.Misuse.TheVariants.{NoAuditFormat, NoMachine}
+use Rattle.pylock_command.specs.declared.misuse.Misuse.TheVariants.{NoPlanFormat}
 use Rattle.pylock_command.specs.declared.misuse.Misuse.TheVariants.{NoPlans, NoTime, NoUrls}
 use Rattle.pylock_command.specs.declared.misuse.Misuse.TheVariants.{StrayTime, TwoForms, TwoInputs}
 use Rattle.pylock_command.specs.declared.misuse.Misuse.TheVariants.{TwoMachines}
@@ -32,6 +33,7 @@ kind_of_misuse StrayTime = ArgumentConflict
 kind_of_misuse TwoInputs = ArgumentConflict
 kind_of_misuse NoPlanFormat = InvalidValue
 kind_of_misuse NoFileFormat = InvalidValue
+kind_of_misuse NoAuditFormat = InvalidValue
 kind_of_misuse BadTime = InvalidValue
 kind_of_misuse NoBase = InvalidValue
 kind_of_misuse EditsAndFile = InvalidValue

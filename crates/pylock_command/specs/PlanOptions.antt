@@ -7,7 +7,8 @@ use Rattle.pylock_command.specs.declared.option.PlanOption.{PlanOption}
 use Rattle.pylock_command.specs.declared.option.PlanOption.TheVariants.{AllExtras, Extra}
 use Rattle.pylock_command.specs.declared.option.PlanOption.TheVariants.{NoDefaultGroups, AllGroups}
 use Rattle.pylock_command.specs.declared.option.PlanOption.TheVariants.{Group, NoGroup, OnlyBinary}
-use Rattle.pylock_command.specs.declared.option.PlanOption.TheVariants.{NoBinary}
+use Rattle.pylock_command.specs.declared.option.PlanOption.TheVariants.{Except, NoBinary}
+use Rattle.pylock_command.specs.declared.option.PlanOption.TheVariants.{NoProject, Only}
 use Rattle.pylock_command.specs.declared.option.PlanOption.TheVariants as option
 
 -- an option as it stands among the words: its name, and its text, if it takes one
@@ -24,6 +25,9 @@ option_words (NoGroup name) = (codes "no-group", Some name.now)
 option_words (OnlyBinary name) = (codes "only-binary", Some name.now)
 option_words (NoBinary name) = (codes "no-binary", Some name.now)
 option_words (option.Set text) = (codes "set", Some text.now)
+option_words (Only name) = (codes "only", Some name.now)
+option_words (Except name) = (codes "except", Some name.now)
+option_words NoProject = (codes "no-project", None)
 
 -- an option without a text, where the words have it
 abbrev pub flag_of : Text → List Row → List OptionWords
@@ -56,12 +60,17 @@ abbrev pub AreOnFiles : List Row → List OptionWords → Type 0
 AreOnFiles rows = Interleaves (texts_of (codes "only-binary") rows)
     (texts_of (codes "no-binary") rows)
 
+-- what the words say of variables, and of which packages of a plan are left
+abbrev pub on_plan : List Row → List OptionWords
+on_plan rows = texts_of (codes "set") rows ++ texts_of (codes "only") rows
+    ++ texts_of (codes "except") rows ++ flag_of (codes "no-project") rows
+
 -- the options that the rows have, in the order in which `PlanOption` names them
 pub record AreOptions (rows : List Row) (options : List PlanOption) : Type 0 where
   pub on_files : List OptionWords
   pub are_on_files : AreOnFiles rows on_files
   pub in_order : map option_words options
-      ≡ on_extras rows ++ on_groups rows ++ on_files ++ texts_of (codes "set") rows
+      ≡ on_extras rows ++ on_groups rows ++ on_files ++ on_plan rows
 
 -- the words have one of the options
 abbrev pub has_one : List OptionWords → Bool
@@ -71,4 +80,4 @@ has_one (option ∷ others) = true
 abbrev pub has_plan_options : List Row → Bool
 has_plan_options rows = has_one (on_extras rows ++ on_groups rows
     ++ texts_of (codes "only-binary") rows ++ texts_of (codes "no-binary") rows
-    ++ texts_of (codes "set") rows)
+    ++ on_plan rows)

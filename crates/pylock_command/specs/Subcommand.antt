@@ -1,5 +1,7 @@
 -- A subcommand, in clap's terms.
-use Rattle.std.specs.Prelude.{List, Option, fold}
+use Rattle.std.specs.Option.{option_map_or}
+use Rattle.std.specs.Prelude.{Bool, List, [], ◌∷◌, Option, find, fold, slice_get}
+use Rattle.std.specs.Str.{bytes_eq}
 use Rattle.clap.specs.Words.{App, Row, Rule, Text, new_app, with_rule, with_subcommand}
 use Rattle.pylock_command.specs.Argument.{with_arguments}
 use Rattle.pylock_command.specs.declared.misuse.Misuse.{Misuse}
@@ -24,3 +26,16 @@ usage_app usage = fold (λ app group. with_arguments app group.now) (new_app usa
 
 abbrev pub with_usage : App → Usage → App
 with_usage app usage = with_subcommand app (usage_app usage).top
+
+-- of these the subcommand of this name, or all where none has it
+abbrev pub has_name : Text → Usage → Bool
+has_name name usage = bytes_eq usage.name.now name
+
+abbrev pub usages_named : Text → List Usage → List Usage
+usages_named name usages =
+    option_map_or (λ usage. usage ∷ []) (find (has_name name) usages) usages
+
+-- of these the one that the second of the words names, behind the program's name, or all
+unfoldable pub usages_for : List Text → List Usage → List Usage
+usages_for words usages =
+    option_map_or (λ name. usages_named name usages) (slice_get words 1) usages

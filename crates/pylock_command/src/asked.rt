@@ -1,24 +1,28 @@
 //! What the subcommands with several arguments are asked, by what clap found.
-ghost use Rattle.std.specs.Prelude.{IfOk, codes};
+ghost use Rattle.std.specs.Prelude.{◌≡◌, ◌++◌, IfOk, OnOk, codes, filter, length, map};
+ghost use Rattle.std.specs.Prelude.{option_to_list};
 ghost use Rattle.clap.specs.Words.{found_of, rows_of};
 ghost use Rattle.pylock_command.specs.Asked.{IsAudit, IsCheck, IsComparison, IsInstallation};
 ghost use Rattle.pylock_command.specs.Asked.{IsMatrix, IsOpening, IsQuestion, IsStatus};
+ghost use Rattle.pylock_command.specs.Asked.{audit_inputs_misuse, audit_misuse, audit_paths};
+ghost use Rattle.pylock_command.specs.Asked.{is_dash};
 ghost use Rattle.pylock_command.specs.Asked.{check_misuse, comparison_misuse};
 ghost use Rattle.pylock_command.specs.Asked.{installation_misuse, matrix_misuse, opening_misuse};
 ghost use Rattle.pylock_command.specs.Asked.{question_misuse, select_misuse, status_misuse};
-ghost use Rattle.pylock_command.specs.Misuse.{Refuses, RefusesUnless, lack};
+ghost use Rattle.pylock_command.specs.Misuse.{Refuses, RefusesUnless};
+ghost use Rattle.pylock_command.specs.PlanOptions.{texts_at};
 
-use crate::form::{form_of, matrix_output_of, output_of};
+use crate::form::{audit_output_of, form_of, matrix_output_of, output_of};
 use crate::machine::{machine_of, place_of};
 use crate::misuse::{Misuse, NoTask};
-use crate::options::options_of;
+use crate::options::{options_of, texts};
 use crate::task::{
     AuditQuestion, CheckQuestion, Comparison, Installation, MatrixQuestion, Opening, Question,
     StatusQuestion, View,
 };
-use crate::texts::{has_flag, judge_input, judge_inputs, text_at, text_of};
+use crate::texts::{STANDARD_INPUT, has_flag, judge_input, judge_inputs, text_at, text_of};
 use clap::ArgMatches;
-use std::alloc::Global;
+use std::alloc::{AllocError, Global};
 
 /// What `plan` or `explain` is asked.
 pub(crate) fn question_of<'a>(
@@ -86,15 +90,83 @@ pub(crate) fn matrix_of<'a>(
 }
 
 /// What `audit` is asked.
-pub(crate) fn audit_of<'a>(found: &ArgMatches<'a>) -> Result<AuditQuestion<'a>, Misuse>
+pub(crate) fn audit_of<'a>(
+    alloc: Global,
+    found: &ArgMatches<'a>,
+) -> Result<AuditQuestion<'a>, NoTask>
     ensures audit { IfOk result (IsAudit (rows_of (found_of found.now))) }
-    ensures refused { Refuses (lack (codes "LOCK") (rows_of (found_of found.now))) result }
+    ensures refused { RefusesUnless (audit_misuse (rows_of (found_of found.now))) result }
 {
+    let lock = text_of(found, "LOCK")?;
+    let output = audit_output_of(found)?;
+    judge_audit_inputs(alloc, found)?;
     Ok(AuditQuestion {
-        lock: text_of(found, "LOCK")?,
+        lock,
         environments: has_flag(found, "environments"),
-        form: form_of(found),
+        advisories: texts_of(alloc, found, "advisories")?,
+        hosts: texts_of(alloc, found, "host")?,
+        fail_on: text_at(found, "fail-on"),
+        ignored: texts_of(alloc, found, "ignore")?,
+        config: text_at(found, "config"),
+        output,
     })
+}
+
+/// Refuses standard input as two files of an audit.
+fn judge_audit_inputs(alloc: Global, found: &ArgMatches<'_>) -> Result<(), NoTask>
+    ensures { RefusesUnless (audit_inputs_misuse (rows_of (found_of found.now))) result }
+{
+    let paths = audit_paths(alloc, found)?;
+    if input_count(&paths) > 1 {
+        return Err(NoTask::Misused(Misuse::TwoInputs));
+    }
+    Ok(())
+}
+
+/// How many of these paths are the word for standard input.
+fn input_count(paths: &[&str]) -> usize
+    ensures { result ≡ length (filter (λ path. is_dash path.now) paths.now) }
+{
+    paths.iter().filter(|path| is_dash(path)).count()
+}
+
+fn is_dash(path: &str) -> bool
+    ensures { result ≡ is_dash path.now }
+{
+    path == STANDARD_INPUT
+}
+
+/// The paths of the files that an audit reads.
+fn audit_paths<'a>(alloc: Global, found: &ArgMatches<'a>) -> Result<Vec<&'a str>, AllocError>
+    ensures { IfOk result (λ paths. map (λ path. path.now) paths.items
+        ≡ audit_paths (rows_of (found_of found.now))) }
+{
+    let mut paths = texts_of(alloc, found, "advisories")?;
+    push_text(&mut paths, text_at(found, "LOCK"))?;
+    push_text(&mut paths, text_at(found, "config"))?;
+    Ok(paths)
+}
+
+/// Adds a text, if it is there.
+fn push_text<'a>(list: &mut Vec<&'a str>, text: Option<&'a str>) -> Result<(), AllocError>
+    ensures { OnOk result (list.new.items ≡ list.old.items ++ option_to_list text.entry) }
+{
+    if let Some(text) = text {
+        list.push(text)?;
+    }
+    Ok(())
+}
+
+/// The texts that the words give an option.
+fn texts_of<'a>(
+    alloc: Global,
+    found: &ArgMatches<'a>,
+    name: &str,
+) -> Result<Vec<&'a str>, AllocError>
+    ensures { IfOk result (λ list. map (λ text. text.now) list.items
+        ≡ texts_at name.now (rows_of (found_of found.now))) }
+{
+    Vec::from_slice(alloc, texts(found, name))
 }
 
 /// What `status` is asked.

@@ -2,12 +2,12 @@
 ghost use Rattle.std.specs.Prelude.{◌≡◌, [], fold, map, None, Some, IfOk, IfErr, OnOk};
 ghost use Rattle.clap.specs.Words.{app_of, fault_of, found_of, kind_of, rows_of};
 ghost use Rattle.clap.specs.Words.{subcommand_of, subcommand_rows_of, with_subcommand};
-ghost use Rattle.pylock_command.specs.CommandLine.{IsRefusal, IsTask, misuse_among, misuse_in};
-ghost use Rattle.pylock_command.specs.CommandLine.{misuse_of, text_subcommands};
+ghost use Rattle.pylock_command.specs.CommandLine.{IsEnough, IsRefusal, IsTask, misuse_among};
+ghost use Rattle.pylock_command.specs.CommandLine.{misuse_in, misuse_of, text_subcommands};
 ghost use Rattle.pylock_command.specs.CommandLine.{pylock_app, top_app};
 ghost use Rattle.pylock_command.specs.Commands.{Adds, IsCommand, IsLocal};
 ghost use Rattle.pylock_command.specs.Misuse.{Refuses, RefusesUnless, kind_of_misuse};
-ghost use Rattle.pylock_command.specs.Subcommand.{with_usage};
+ghost use Rattle.pylock_command.specs.Subcommand.{usages_for, usages_named, with_usage};
 
 use crate::asked::{
     audit_of, check_of, comparison_of, matrix_of, question_of, select_of, status_of,
@@ -22,6 +22,7 @@ use crate::texts::text_of;
 use clap::error::ErrorKind;
 use clap::{ArgMatches, Command};
 use std::alloc::{AllocError, Global};
+use std::slice;
 
 /// Why there is no task.
 #[derive(Debug, Drop)]
@@ -61,15 +62,45 @@ impl From<clap::Error> for CommandError {
 ///
 /// No source can hold the sum of itself. So 64 characters stand in its place, and where a build is
 /// kept `tools/make/built stamp` writes the sum over them. No contract speaks of this text.
-const VERSION: &str = "1.12.0
+const VERSION: &str = "1.13.0
 sources (not told: rt built it; ./pylock and tools/release tell the sum), \
 proved in logic dac8208d650f15bf";
 
-/// The command `pylock` with its subcommands.
-fn pylock_command<'a>(alloc: Global) -> Result<Command<'a>, AllocError>
-    ensures { IsCommand pylock_app result }
+/// The number of this release, as the first line of `--version` has it behind the program's name.
+/// It takes no memory.
+pub fn release() -> &'static str {
+    VERSION.lines().next().unwrap_or_default()
+}
+
+/// The command `pylock`. Where the words name a subcommand it has that one alone, which is enough
+/// for them: to describe one costs time and memory in each run.
+fn pylock_command<'a>(alloc: Global, words: &[&str]) -> Result<Command<'a>, AllocError>
+    ensures { IfOk result (λ command. IsEnough (map (λ w. w.now) words.now) (app_of command)) }
 {
-    with_each_usage(alloc, Ok(bare_command(alloc)), &SUBCOMMANDS)
+    let usages = usages_for(words, &SUBCOMMANDS);
+    with_each_usage(alloc, Ok(bare_command(alloc)), usages)
+}
+
+/// The subcommand of these that the words name, or all where they name none.
+fn usages_for<'a>(words: &[&str], usages: &'a [Usage]) -> &'a [Usage]
+    ensures { result.now ≡ usages_for (map (λ w. w.now) words.now) usages.now }
+{
+    match words.get(1) {
+        Some(name) => usages_named(name, usages),
+        None => usages,
+    }
+}
+
+/// The subcommand of this name, or all where none has it.
+fn usages_named<'a>(name: &str, usages: &'a [Usage]) -> &'a [Usage]
+    ensures { result.now ≡ usages_named name.now usages.now }
+{
+    for usage in usages {
+        if usage.name == name {
+            return slice::from_ref(usage);
+        }
+    }
+    usages
 }
 
 /// The command `pylock` without its subcommands.
@@ -142,7 +173,7 @@ fn task_in<'a>(alloc: Global, name: &str, found: &ArgMatches<'a>) -> Result<Task
         "check" => Task::Check(check_of(alloc, found)?),
         "show" => Task::Summary(text_of(found, "LOCK")?, form),
         "files" => Task::Files(text_of(found, "LOCK")?, files_output_of(found)?),
-        "audit" => Task::Audit(audit_of(found)?),
+        "audit" => Task::Audit(audit_of(alloc, found)?),
         "diff" => Task::Diff(comparison_of(alloc, found)?),
         "environment" => Task::Environment(target_of(found)?),
         _ => text_task_in(name, found)?,
@@ -185,7 +216,7 @@ pub fn command<'a>(alloc: Global, words: &'a [&'a str]) -> Result<Task<'a>, Comm
         (misuse_of (subcommand_of pylock_app (map (λ w. w.now) words.entry.now)) ≡ None) }
     ensures refused { IfErr result (IsRefusal (map (λ w. w.now) words.entry.now)) }
 {
-    let mut app = pylock_command(alloc)?;
+    let mut app = pylock_command(alloc, words)?;
     read_task(alloc, &mut app, words)
 }
 
@@ -195,7 +226,7 @@ fn read_task<'a>(
     app: &mut Command<'a>,
     words: &'a [&'a str],
 ) -> Result<Task<'a>, CommandError>
-    requires { app_of app.old ≡ pylock_app }
+    requires { IsEnough (map (λ w. w.now) words.now) (app_of app.old) }
     ensures task { IfOk result
         (IsTask (subcommand_of pylock_app (map (λ w. w.now) words.entry.now))) }
     ensures taken { OnOk result (fault_of pylock_app (map (λ w. w.now) words.entry.now) ≡ []) }

@@ -1,7 +1,8 @@
 //! How an answer is printed, and the arguments that ask for it.
 ghost use Rattle.std.specs.Prelude.{◌≡◌, IfOk, option_map};
 ghost use Rattle.clap.specs.Words.{found_of, rows_of};
-ghost use Rattle.pylock_command.specs.Form.{IsFilesOutput, IsFormat, IsMatrixOutput, IsOutput};
+ghost use Rattle.pylock_command.specs.Form.{IsAuditOutput, IsFilesOutput, IsFormat};
+ghost use Rattle.pylock_command.specs.Form.{IsMatrixOutput, IsOutput, audit_output_misuse};
 ghost use Rattle.pylock_command.specs.Form.{IsPlanOutput, IsTime, file_format_named};
 ghost use Rattle.pylock_command.specs.Form.{files_output_misuse, form_of, format_misuse};
 ghost use Rattle.pylock_command.specs.Form.{format_word, matrix_output_misuse, output_misuse};
@@ -15,7 +16,7 @@ use crate::argument::{Argument, Kind};
 use crate::base::base_of;
 use crate::created::is_created;
 use crate::misuse::Misuse;
-use crate::task::{FilesOutput, MatrixOutput, Output, View};
+use crate::task::{AuditOutput, FilesOutput, MatrixOutput, Output, View};
 use crate::texts::{has_flag, text_at};
 use clap::ArgMatches;
 
@@ -227,6 +228,18 @@ pub(crate) fn matrix_output_of<'a>(found: &ArgMatches<'a>) -> Result<MatrixOutpu
     match text_at(found, "format") {
         Some(_) => Err(Misuse::FormatOfRows),
         None => Ok(MatrixOutput::Rows(form_of(found))),
+    }
+}
+
+/// How the answer of `audit` is printed.
+pub(crate) fn audit_output_of(found: &ArgMatches<'_>) -> Result<AuditOutput, Misuse>
+    ensures output { IfOk result (IsAuditOutput (rows_of (found_of found.now))) }
+    ensures refused { Refuses (audit_output_misuse (rows_of (found_of found.now))) result }
+{
+    match format_word(found)? {
+        Some("sarif") => Ok(AuditOutput::Sarif),
+        Some(_) => Err(Misuse::NoAuditFormat),
+        None => Ok(AuditOutput::Shown(form_of(found))),
     }
 }
 

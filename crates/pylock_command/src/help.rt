@@ -49,6 +49,11 @@ them. --only-binary :all: leaves VCS sources, directories and archives, which
 are built all the same. A refused option prints refused, TAB, the option, TAB
 and its text.
 
+--only, --except and --no-project leave packages out of a plan that is made:
+those that --only doesn't name, those that --except names, and directories that
+are editable or the lock's own, of which the path is just . A package that the
+lock doesn't have is refused. Standard error counts what is left out.
+
 --python and --platform name a target in place of ENV. PYTHON is such as 3.12
 or 3.12.4, with t behind it for the build without the GIL. PLATFORM is one of:
   manylinux_2_N_ARCH  Linux with glibc 2.N; ARCH is such as x86_64 or aarch64
@@ -433,8 +438,27 @@ DETAIL is then the number of the earlier entry, and of clash the options that
 set the environment, or the version of the Python. What takes too long isn't
 worked out, so it is told by a finding with may.
 
-Status: 0, nothing was found; 1, something was; 2, the lock or the command line
-is refused; 3, a file can't be read, the output failed or memory ran out.";
+--advisories reads a file in OSV's format, as PyPI's advisories have it: one
+JSON object, an array of them, or one on each line. --host names a host that
+sources may be on. They find these too:
+  vulnerable          an advisory affects the entry at its version; DETAIL is
+                      its id, the ids of the same elsewhere, and the version to
+                      go to
+  other-host          the URL of a source names none of the hosts
+
+--ignore FINDING leaves a finding out, and --ignore FINDING:NAME that of one
+package; the first line is then findings K ignored N. With --fail-on the status
+tells of the findings that it names alone. --config reads the keys environments,
+fail-on, host and ignore of the table tool.pylock.audit of a pyproject.toml,
+which count as the options do; --fail-on counts in place of fail-on there.
+
+--format prints what another tool takes, and nothing else. FORM is one of:
+  sarif               a document of SARIF 2.1.0, which code hosts show beside the
+                      lines of the lock
+
+Status: 0, nothing was found, or nothing that fails the audit; 1, something was;
+2, the lock, a file read besides or the command line is refused; 3, a file can't
+be read, the output failed or memory ran out.";
 
 pub(crate) const DIFF: &str = "\
 Example, with spaces for the TABs:

@@ -30,12 +30,12 @@ mod task;
 mod texts;
 
 pub use base::Base;
-pub use command_line::{CommandError, command};
+pub use command_line::{CommandError, command, release};
 pub use created::is_created;
 pub use form::{BillFormat, FileFormat, Form, PlanFormat};
 pub use machine::{Machine, TargetWords};
 pub use option::PlanOption;
 pub use task::{
-    AuditQuestion, CheckQuestion, Comparison, FilesOutput, Installation, MatrixOutput,
+    AuditOutput, AuditQuestion, CheckQuestion, Comparison, FilesOutput, Installation, MatrixOutput,
     MatrixQuestion, Opening, Output, Question, StatusQuestion, Task, TextQuestion, View,
 };

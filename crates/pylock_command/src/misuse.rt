@@ -25,6 +25,8 @@ pub(crate) enum Misuse {
     NoPlanFormat,
     /// `--format` of `files` or `matrix` has another text than the name of a form.
     NoFileFormat,
+    /// `--format` of `audit` has another text than the name of a form.
+    NoAuditFormat,
     /// `--format` of `matrix` stands without `--files`.
     FormatOfRows,
     /// An SPDX document is asked for without a time.
@@ -61,6 +63,7 @@ impl Misuse {
             }
             Misuse::NoPlanFormat
             | Misuse::NoFileFormat
+            | Misuse::NoAuditFormat
             | Misuse::BadTime
             | Misuse::NoBase
             | Misuse::EditsAndFile => ErrorKind::InvalidValue,
@@ -83,6 +86,7 @@ impl Misuse {
                  cyclonedx or spdx"
             }
             Misuse::NoFileFormat => "--format takes sha256sum, aria2 or urls",
+            Misuse::NoAuditFormat => "--format takes sarif",
             Misuse::FormatOfRows => "--format of matrix wants --files",
             Misuse::NoTime => "--format spdx wants --created",
             Misuse::StrayTime => "--created can be used with --format spdx alone",

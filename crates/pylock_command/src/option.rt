@@ -21,4 +21,10 @@ pub enum PlanOption<'a> {
     NoBinary(&'a str),
     /// `--set`, with the text `VARIABLE=VALUE`.
     Set(&'a str),
+    /// `--only`, with the text of a name: of the plan this package, and others that are so named.
+    Only(&'a str),
+    /// `--except`, with the text of a name: of the plan not this package.
+    Except(&'a str),
+    /// `--no-project`: of the plan no directory that is editable or the lock's own.
+    NoProject,
 }

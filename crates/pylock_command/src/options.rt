@@ -2,7 +2,7 @@
 ghost use Rattle.std.specs.Prelude.{◌≡◌, ◌++◌, List, map, IfOk, OnOk, Some, None};
 ghost use Rattle.clap.specs.Words.{found_of, rows_of};
 ghost use Rattle.pylock_command.specs.PlanOptions.{AreOptions, AreOnFiles, OptionWords, flag_of};
-ghost use Rattle.pylock_command.specs.PlanOptions.{on_extras, on_groups};
+ghost use Rattle.pylock_command.specs.PlanOptions.{on_extras, on_groups, on_plan};
 ghost use Rattle.pylock_command.specs.PlanOptions.{option_words, texts_at, texts_of};
 
 use crate::argument::{Argument, Kind};
@@ -60,6 +60,25 @@ pub(crate) const CHOICES: [Argument; 9] = [
     },
 ];
 
+/// What is left of a plan, in the order of the help.
+pub(crate) const LEFT: [Argument; 3] = [
+    Argument {
+        name: "only",
+        kind: Kind::Repeated("NAME"),
+        help: "Print of the plan this package alone, or these",
+    },
+    Argument {
+        name: "except",
+        kind: Kind::Repeated("NAME"),
+        help: "Leave this package out of the plan",
+    },
+    Argument {
+        name: "no-project",
+        kind: Kind::Flag,
+        help: "Leave out what is editable, and the lock's folder",
+    },
+];
+
 /// The options that the words have, in the order in which `PlanOption` names them.
 pub(crate) fn options_of<'a>(
     alloc: Global,
@@ -71,7 +90,7 @@ pub(crate) fn options_of<'a>(
     push_on_extras(&mut options, found)?;
     push_on_groups(&mut options, found)?;
     push_on_files(&mut options, found)?;
-    push_texts(&mut options, found, "set", |text| PlanOption::Set(text))?;
+    push_on_plan(&mut options, found)?;
     Ok(options)
 }
 
@@ -104,6 +123,20 @@ fn push_on_groups<'a>(
     push_flag(list, found, "all-groups", PlanOption::AllGroups)?;
     push_texts(list, found, "group", |name| PlanOption::Group(name))?;
     push_texts(list, found, "no-group", |name| PlanOption::NoGroup(name))
+}
+
+/// Pushes what the words say of variables, and of which packages of a plan are left.
+fn push_on_plan<'a>(
+    list: &mut Vec<PlanOption<'a>>,
+    found: &ArgMatches<'a>,
+) -> Result<(), AllocError>
+    ensures { OnOk result (map option_words list.new.items
+        ≡ map option_words list.old.items ++ on_plan (rows_of (found_of found.now))) }
+{
+    push_texts(list, found, "set", |text| PlanOption::Set(text))?;
+    push_texts(list, found, "only", |name| PlanOption::Only(name))?;
+    push_texts(list, found, "except", |name| PlanOption::Except(name))?;
+    push_flag(list, found, "no-project", PlanOption::NoProject)
 }
 
 /// Pushes what the words say of files, in their order.
@@ -170,7 +203,7 @@ fn push_texts<'a, F: Fn(&'a str) -> PlanOption<'a>>(
 }
 
 /// The texts that the words give an option.
-fn texts<'b, 'a>(found: &'b ArgMatches<'a>, name: &str) -> &'b [&'a str]
+pub(crate) fn texts<'b, 'a>(found: &'b ArgMatches<'a>, name: &str) -> &'b [&'a str]
     ensures { map (λ text. text.now) result.now ≡ texts_at name.now (rows_of (found_of found.now)) }
 {
     found.get_strs(name).unwrap_or_default()

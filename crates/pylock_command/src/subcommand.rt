@@ -10,7 +10,7 @@ use crate::base::BASE;
 use crate::form::{CREATED, FILES, FORMAT, JSON, JSON_LINES};
 use crate::help;
 use crate::machine::{ENV, IN, NEEDED_TARGET, SELECT_ENV, TARGET, TARGETS};
-use crate::options::CHOICES;
+use crate::options::{CHOICES, LEFT};
 use clap::Command;
 use std::alloc::{AllocError, Global};
 
@@ -114,6 +114,36 @@ const ENVIRONMENTS: Argument = Argument {
     help: "Look at every environment that the lock is for too",
 };
 
+const ADVISORIES: Argument = Argument {
+    name: "advisories",
+    kind: Kind::Repeated("FILE"),
+    help: "Tell what these advisories affect, in OSV's format",
+};
+
+const HOST: Argument = Argument {
+    name: "host",
+    kind: Kind::Repeated("HOST"),
+    help: "Tell each source that names another host than these",
+};
+
+const FAIL_ON: Argument = Argument {
+    name: "fail-on",
+    kind: Kind::Single("FINDING,.."),
+    help: "End with 1 for these findings alone",
+};
+
+const IGNORE: Argument = Argument {
+    name: "ignore",
+    kind: Kind::Repeated("FINDING[:NAME]"),
+    help: "Leave out a finding, of all packages or of one",
+};
+
+const CONFIG: Argument = Argument {
+    name: "config",
+    kind: Kind::Single("FILE"),
+    help: "Read [tool.pylock.audit] of a pyproject.toml too",
+};
+
 const INSTALLED: Argument = Argument {
     name: "installed",
     kind: Kind::Needed("FILE"),
@@ -141,6 +171,7 @@ pub(crate) const SUBCOMMANDS: [Usage; 18] = [
             &[LOCK, ENV],
             &TARGET,
             &CHOICES,
+            &LEFT,
             &[STRICT, FORMAT, CREATED, BASE, JSON],
         ],
         reply: help::PLAN,
@@ -201,7 +232,17 @@ pub(crate) const SUBCOMMANDS: [Usage; 18] = [
     Usage {
         name: "audit",
         about: "Print what a careful reader of a lock should know",
-        arguments: &[&[LOCK, ENVIRONMENTS, JSON]],
+        arguments: &[&[
+            LOCK,
+            ENVIRONMENTS,
+            ADVISORIES,
+            HOST,
+            FAIL_ON,
+            IGNORE,
+            CONFIG,
+            FORMAT,
+            JSON,
+        ]],
         reply: help::AUDIT,
     },
     Usage {

@@ -34,6 +34,15 @@ pub enum FilesOutput<'a> {
     Tool(FileFormat, Option<Base<'a>>),
 }
 
+/// How the answer of `audit` is printed.
+#[derive(Clone, Copy, Debug, PartialEq, Eq)]
+pub enum AuditOutput {
+    /// The findings, in a form.
+    Shown(Form),
+    /// The findings as a SARIF document (SARIF 2.1.0), which code hosts take.
+    Sarif,
+}
+
 /// How the answer of `matrix` is printed.
 #[derive(Clone, Copy, Debug, PartialEq, Eq)]
 pub enum MatrixOutput<'a> {
@@ -88,14 +97,24 @@ pub struct Comparison<'a> {
 }
 
 /// What `audit` is asked.
-#[derive(Clone, Copy, Debug)]
+#[derive(Debug, Drop)]
 pub struct AuditQuestion<'a> {
     /// The path of the lock, of which `-` is standard input.
     pub lock: &'a str,
     /// Whether every environment that the lock is for is looked at too.
     pub environments: bool,
-    /// The form of the answer.
-    pub form: Form,
+    /// The paths of files of advisories. Of all paths of a question one at most is `-`.
+    pub advisories: Vec<&'a str>,
+    /// The hosts that a source may name; any where there are none.
+    pub hosts: Vec<&'a str>,
+    /// The words of the findings that fail the audit, with `,` between two; without them all do.
+    pub fail_on: Option<&'a str>,
+    /// What is ignored: the word of a finding, and `:` and a name behind it for one package.
+    pub ignored: Vec<&'a str>,
+    /// The path of a project file whose settings count too.
+    pub config: Option<&'a str>,
+    /// How the answer is printed.
+    pub output: AuditOutput,
 }
 
 /// What `matrix` is asked.

@@ -9,7 +9,7 @@ use crate::misuse::Misuse;
 use clap::ArgMatches;
 
 /// The word for standard input in the place of a file's path.
-const STANDARD_INPUT: &str = "-";
+pub(crate) const STANDARD_INPUT: &str = "-";
 
 /// The text of an argument that may be left out.
 pub(crate) fn text_at<'a>(found: &ArgMatches<'a>, id: &str) -> Option<&'a str>
