@@ -7,3 +7,7 @@ pub mod MatrixLemmas
 pub mod PlanLemmas
 pub mod AuditLemmas
 pub mod CheckLemmas
+pub mod PathLemmas
+pub mod SarifLemmas
+pub mod PlainAuditLemmas
+pub mod AdvisoryLemmas

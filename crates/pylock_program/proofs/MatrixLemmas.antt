@@ -44,7 +44,7 @@ use Rattle.pylock_matrix.specs.Moving.{HasVariables, first_on, is_movable, place
 use Rattle.pylock_matrix.specs.declared.setting.Setting.{Setting}
 use Rattle.pylock_program.specs.Matrix.{asked_settings, begun, begun_report, option_settings, picked_report, rows_from, rows_report, rows_status, targets_report}
 use Rattle.pylock_program.specs.Opening.{chosen_state}
-use Rattle.pylock_program.specs.PlanOptions.{after_option, after_options, edit_of_name, edits_of, name_edit, policies, set_edits, setting_of}
+use Rattle.pylock_program.specs.PlanOptions.{after_option, after_options, edit_of_name, edits_of, has_entry, name_edit, no_edits_if, policies, set_edits, setting_of}
 use Rattle.pylock_program.specs.declared.options.NameEdit.{NameEdit}
 use Rattle.pylock_program.specs.declared.options.NameEdit.TheVariants.{Change, Policy}
 use Rattle.pylock_program.specs.declared.refusal.Cause.{Cause}
@@ -92,6 +92,10 @@ policies_move state policy text =
     if_moves (bytes_eq text (codes ":all:")) (Some (map (λ entry. name_edit (Policy policy) entry.1.name) state.entries)) (edit_of_name (Policy policy) text)
     (entries_move policy state.entries) (name_moves (Policy policy) text)
 
+no_move : (is_so : Bool) → MovesIf [] (no_edits_if is_so)
+no_move true = (refl, refl)
+no_move false = tt
+
 option_moves : (state : State) (option : PlanOption) → MovesIf (option_settings option) (edits_of state option)
 option_moves state option.AllExtras = all_names_move (Change AddExtra) state.head.extras
 option_moves state (option.Extra name) = name_moves (Change AddExtra) name.now
@@ -102,6 +106,9 @@ option_moves state (option.Group name) = name_moves (Change AddGroup) name.now
 option_moves state (option.NoGroup name) = name_moves (Change DropGroup) name.now
 option_moves state (option.OnlyBinary name) = policies_move state Wheel name.now
 option_moves state (option.NoBinary name) = policies_move state Source name.now
+option_moves state (option.Only name) = no_move (has_entry state name.now)
+option_moves state (option.Except name) = no_move (has_entry state name.now)
+option_moves state option.NoProject = no_move true
 option_moves state (option.Set text) = by (setting_of text.now)
   where
     by : (setting : Option Setting) → MovesIf (option_map_or (λ s. s ∷ []) setting []) (option_map set_edits setting)
@@ -120,6 +127,9 @@ edits_stay target settings state (option.NoGroup name) = refl
 edits_stay target settings state (option.OnlyBinary name) = refl
 edits_stay target settings state (option.NoBinary name) = refl
 edits_stay target settings state (option.Set text) = refl
+edits_stay target settings state (option.Only name) = refl
+edits_stay target settings state (option.Except name) = refl
+edits_stay target settings state option.NoProject = refl
 
 -- ---- the state after options
 

@@ -148,7 +148,7 @@ pub ruleset runs = (session_runs, refused_runs)
 module _ (question : Question) (diagnostic : Option DiagnosticValue) (lock : List ℕ) (environment : EnvironmentRead) where
   abbrev report_found : List LockFindingValue → Report
   report_found found =
-      report_or_refusal (output_form question.output) diagnostic (output_report question.output lock)
+      report_or_refusal (output_form question.output) diagnostic (output_report question.options.items question.output lock)
       (result_map_both (λ state. state) cause.Unopened (open_unless found (state_in lock environment)) >>= chosen_state question.options.items)
 
   pub taken_plan : strict_findings_of lock ≡ []

@@ -4,3 +4,4 @@ pub mod Audit
 pub mod Check
 pub mod Chosen
 pub mod Machine
+pub mod Sarif

@@ -3,8 +3,10 @@ pub mod Findings
 pub mod Refusal
 pub mod Opening
 pub mod Reply
+pub mod Sarif
 pub mod Audit
 pub mod PlanOptions
+pub mod Left
 pub mod Show
 pub mod Diff
 pub mod Matrix

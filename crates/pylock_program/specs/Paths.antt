@@ -1,8 +1,11 @@
 -- What the paths of the command line give: `-` is standard input, and any other path a file; and
 -- the environment of a machine.
-use Rattle.std.specs.Prelude.{◌≡◌, ℕ, Bool, true, false, List, codes, Result, Ok, Err}
+use Rattle.std.specs.Borrow.{Bor}
+use Rattle.std.specs.Prelude.{◌≡◌, ◌⊎◌, ℕ, Bool, true, false, List, [], ◌∷◌, codes, MatchResult}
+use Rattle.std.specs.Prelude.{Option, Some, None, Result, Ok, Err}
 use Rattle.std.specs.Result.{result_map_both}
 use Rattle.std.specs.Str.{bytes_eq}
+use Rattle.pytext.specs.Results.{◌>>=◌}
 use Rattle.pylock_command.specs.declared.machine.Machine.{Machine}
 use Rattle.pylock_command.specs.declared.machine.Machine.TheVariants as machine
 use Rattle.pylock_program.specs.declared.failure.Failure.{Failure}
@@ -41,6 +44,39 @@ pub record IsReadAs (gives : Reads) (path : List ℕ) (source source' : SourceVa
   pub read : Result (List ℕ) FileFault
   pub given : IsRead gives path source source' read
   pub tells : result ≡ result_map_both (λ bytes. bytes) file_failure read
+
+-- how one read and then the others are told of
+abbrev pub Readings : Type 0 → Type 1
+Readings A = SourceValue → SourceValue → Result A Failure → Type 0
+
+-- the first is read, and then, unless that failed, the others
+pub record AreJoined (IsFirst : Readings (List ℕ)) (AreOthers : Readings (List (List ℕ)))
+    (source source' : SourceValue) (result : Result (List (List ℕ)) Failure) : Type 0 where
+  pub first : Result (List ℕ) Failure
+  pub others : Result (List (List ℕ)) Failure
+  pub between : SourceValue
+  pub is_first : IsFirst source between first
+  pub are_others : MatchResult first (λ _. AreOthers between source' others)
+      (λ _. source' ≡ between)
+  pub joins : result ≡ (first >>= λ bytes. others >>= λ more. Ok (bytes ∷ more))
+
+-- what stands at each of these paths is read, in order; the first that can't be ends it
+unfoldable pub AreReadAs : Reads → List (List ℕ) → Readings (List (List ℕ))
+AreReadAs gives [] source source' result = (result ≡ Ok []) × (source' ≡ source)
+AreReadAs gives (path ∷ paths) source source' result =
+    AreJoined (IsReadAs gives path) (AreReadAs gives paths) source source' result
+
+-- the same, unless memory ran out
+abbrev pub AreRead : Reads → List (List ℕ) → Readings (List (List ℕ))
+AreRead gives paths source source' result =
+    AreReadAs gives paths source source' result ⊎ (result ≡ Err Memory)
+
+-- what stands at a path is read, if there is one
+abbrev pub IsMaybeRead : Reads → Option (Bor (List ℕ)) → Readings (Option (List ℕ))
+IsMaybeRead gives None source source' result = (result ≡ Ok None) × (source' ≡ source)
+IsMaybeRead gives (Some path) source source' result =
+    (bytes : Result (List ℕ) Failure) × IsReadAs gives path.now source source' bytes
+    × (result ≡ result_map_both (λ b. Some b) (λ failure. failure) bytes)
 
 -- the environment of a machine is read: from its file, or it is that of the target
 abbrev pub IsMachineRead : Reads → Machine → SourceValue → SourceValue

@@ -1,6 +1,8 @@
 -- The options of `plan` and `explain`: the edits that each means, and the state after them.
-use Rattle.std.specs.Prelude.{ℕ, List, [], ◌∷◌, ◌++◌, map, codes, if◌then◌else◌, Option, Some, None}
+use Rattle.std.specs.Prelude.{ℕ, Bool, true, ◌&&◌, List, [], ◌∷◌, ◌++◌, map, codes, if◌then◌else◌}
+use Rattle.std.specs.Prelude.{Option, Some, None}
 use Rattle.std.specs.Prelude.{option_map, option_and_then, ok_or, Result, Ok}
+use Rattle.std.specs.List.{list_any}
 use Rattle.std.specs.Result.{result_ok}
 use Rattle.std.specs.Str.{bytes_eq}
 use Rattle.pytext.specs.Results.{◌>>=◌}
@@ -17,6 +19,7 @@ use Rattle.pylock_core.specs.declared.edit.Edit.TheVariants as edit
 use Rattle.pylock_core.specs.declared.edit.NameChange.TheVariants.{AddExtra, AddGroup, DropGroup}
 use Rattle.pylock_core.specs.declared.edit.Policy.{Policy as FilePolicy}
 use Rattle.pylock_core.specs.declared.edit.Policy.TheVariants.{Wheel, Source}
+use Rattle.pylock_readers.specs.Entry.{EntryValue}
 use Rattle.pylock_matrix.specs.declared.setting.Setting.{Setting}
 use Rattle.pylock_program.specs.declared.options.NameEdit.{NameEdit}
 use Rattle.pylock_program.specs.declared.options.NameEdit.TheVariants.{Change, Policy}
@@ -53,7 +56,19 @@ set_edits setting = edit.Environment (change.Set setting.variable setting.text) 
 abbrev pub set_variable : List ℕ → Option (List Edit)
 set_variable text = option_map set_edits (setting_of text)
 
--- the edits of an option, in order; none where its text is none
+-- an entry has this name
+abbrev pub is_named : List ℕ → EntryValue → Bool
+is_named name entry = bytes_eq (normal_name name) (normal_name entry.name)
+
+abbrev pub has_entry : State → List ℕ → Bool
+has_entry state name = is_name name && list_any (λ entry. is_named name entry.1) state.entries
+
+-- no edits, where that is so
+abbrev pub no_edits_if : Bool → Option (List Edit)
+no_edits_if is_so = if is_so then Some [] else None
+
+-- the edits of an option, in order; none where its text is none. What is left of a plan isn't
+-- edited.
 abbrev pub edits_of : State → PlanOption → Option (List Edit)
 edits_of state option.AllExtras = Some (map (name_edit (Change AddExtra)) state.head.extras)
 edits_of state (option.Extra name) = edit_of_name (Change AddExtra) name.now
@@ -67,6 +82,9 @@ edits_of state (option.NoGroup name) = edit_of_name (Change DropGroup) name.now
 edits_of state (option.OnlyBinary name) = policies state Wheel name.now
 edits_of state (option.NoBinary name) = policies state Source name.now
 edits_of state (option.Set text) = set_variable text.now
+edits_of state (option.Only name) = no_edits_if (has_entry state name.now)
+edits_of state (option.Except name) = no_edits_if (has_entry state name.now)
+edits_of state option.NoProject = no_edits_if true
 
 -- ---- the state after options
 

@@ -1,4 +1,5 @@
 -- What the program does with its task, and how it ends.
+use Rattle.std.specs.Borrow.{Bor}
 use Rattle.std.specs.Prelude.{◌≡◌, ◌≢◌, ◌⊎◌, ℕ, Bool, List, codes}
 use Rattle.std.specs.Prelude.{Option, Some, None}
 use Rattle.std.specs.Prelude.{Result, Ok, Err}
@@ -10,12 +11,12 @@ use Rattle.pylock_command.specs.declared.task.CheckQuestion.{CheckQuestion}
 use Rattle.pylock_command.specs.declared.task.Installation.{Installation}
 use Rattle.pylock_command.specs.declared.task.Task.{Task}
 use Rattle.pylock_command.specs.declared.task.Task.TheVariants as task
-use Rattle.pylock_program.specs.Audit.{EndsUnwritten, PrintsAudit}
+use Rattle.pylock_program.specs.Audit.{EndsUnwritten, PrintsAudit, opened_audit, words_of}
 use Rattle.pylock_program.specs.Check.{PrintsCheck, opened_check}
 use Rattle.pylock_program.specs.Diff.{locks_report, plans_report}
 use Rattle.pylock_program.specs.Matrix.{matrix_report}
 use Rattle.pylock_program.specs.Opening.{opened_by}
-use Rattle.pylock_program.specs.Paths.{IsMachineRead, IsReadAs}
+use Rattle.pylock_program.specs.Paths.{AreRead, IsMachineRead, IsMaybeRead, IsReadAs}
 use Rattle.pylock_program.specs.Refusal.{PrintsTelling, refusal_report}
 use Rattle.pylock_program.specs.Reply.{files_report, marker_report}
 use Rattle.pylock_program.specs.Reply.{target_report, text_report}
@@ -128,6 +129,14 @@ pub record After {A : Type 0} (IsGiven : SourceValue → SourceValue → Result 
 abbrev pub Opens : Reads → List ℕ → (List ℕ → Outcome) → Outcome
 Opens gives path = After (IsReadAs gives path)
 
+-- what stands at each of these paths
+abbrev pub OpensEach : Reads → List (List ℕ) → (List (List ℕ) → Outcome) → Outcome
+OpensEach gives paths = After (AreRead gives paths)
+
+-- what stands at a path, if there is one
+abbrev pub OpensMaybe : Reads → Option (Bor (List ℕ)) → (Option (List ℕ) → Outcome) → Outcome
+OpensMaybe gives path = After (IsMaybeRead gives path)
+
 -- the environment of a machine
 abbrev pub OpensMachine : Reads → Machine → (EnvironmentRead → Outcome) → Outcome
 OpensMachine gives machine = After (IsMachineRead gives machine)
@@ -141,9 +150,10 @@ Greets source source' sink sink' result =
     Replies greeting source source' sink sink' result × (result ≢ Err Memory)
 
 -- what is found in a lock is printed, and standard input isn't read
-abbrev pub Audits : AuditQuestion → List ℕ → Outcome
-Audits asked bytes source source' sink sink' result =
-    Tells (PrintsAudit asked.environments asked.form bytes sink sink') result
+abbrev pub Audits : AuditQuestion → List ℕ → List (List ℕ) → Option (List ℕ) → Outcome
+Audits asked lock files config source source' sink sink' result =
+    Tells (λ end. PrintsAudit asked lock (opened_audit asked lock files config) sink sink' end
+    ⊎ EndsUnwritten sink sink' end) result
     × (source' ≡ source)
 
 -- two locks are compared, or what they install on a machine
@@ -163,7 +173,8 @@ Checks asked lock read project source source' sink sink' result =
 
 -- What the program does with each task, by what reads of files may give. `select`, `plan`,
 -- `explain`, `status` and `check` read the lock first, and then the environment; then `status`
--- reads what is installed, and `check` the project.
+-- reads what is installed, and `check` the project. `audit` reads the lock first, and then the
+-- advisories and the settings.
 abbrev pub Performs : Reads → Task → Outcome
 Performs gives task.Bare = Greets
 Performs gives (task.Show question) =
@@ -188,7 +199,9 @@ Performs gives (task.Summary lock form) =
 Performs gives (task.Files lock output) =
     Opens gives lock.now
     (λ bytes. RepliesTelling (λ diagnostic. files_report output diagnostic bytes))
-Performs gives (task.Audit asked) = Opens gives asked.lock.now (Audits asked)
+Performs gives (task.Audit asked) =
+    Opens gives asked.lock.now (λ lock. OpensEach gives (words_of asked.advisories.items)
+    (λ files. OpensMaybe gives asked.config (Audits asked lock files)))
 Performs gives (task.Diff asked) =
     Opens gives asked.old.now (λ old. Opens gives asked.new.now
     (λ new. Compares gives asked.form asked.installation old new))

@@ -1,19 +1,28 @@
 -- What is printed in place of an answer, as a line or as a document. A document may tell more than
 -- the words of the line, such as where a file is wrong.
 use Rattle.std.specs.Prelude.{ℕ, Bool, true, false, List, [], ◌∷◌, codes, Option, Some, None}
-use Rattle.std.specs.Prelude.{Result, Ok, Err, option_map, option_to_list}
+use Rattle.std.specs.Prelude.{Result, Ok, Err, decimal, option_map, option_to_list}
 use Rattle.std.specs.Result.{result_map_both}
 use Rattle.pytext.specs.Agreement.{Gives}
+use Rattle.pylock_advisories.specs.Members.{member_name}
+use Rattle.pylock_advisories.specs.declared.error.AdvisoriesError.{AdvisoriesError}
+use Rattle.pylock_advisories.specs.declared.error.AdvisoriesError.TheVariants as file
+use Rattle.pylock_advisories.specs.declared.error.AdvisoryError.{AdvisoryError}
+use Rattle.pylock_advisories.specs.declared.error.AdvisoryError.TheVariants as advisory
 use Rattle.pylock_command.specs.PlanOptions.{option_words}
 use Rattle.pylock_command.specs.declared.option.PlanOption.{PlanOption}
 use Rattle.pylock_command.specs.declared.form.Form.{Form}
 use Rattle.pylock_command.specs.declared.form.Form.TheVariants.{Lines, Json}
 use Rattle.pylock_check.specs.Words.{project_place, project_word}
 use Rattle.pylock_check.specs.declared.error.ProjectError.{ProjectError}
+use Rattle.pylock_findings.specs.declared.policy.PolicyError.{PolicyError}
+use Rattle.pylock_findings.specs.declared.policy.PolicyError.TheVariants as policy
 use Rattle.pylock_installed.specs.Words.{installed_words}
 use Rattle.pylock_installed.specs.declared.error.InstalledError.{InstalledError}
 use Rattle.pylock_messages.specs.Diagnostic.{DiagnosticValue}
 use Rattle.pylock_readers.specs.declared.error.LockError.{LockError}
+use Rattle.pylock_settings.specs.Words.{settings_place, settings_word}
+use Rattle.pylock_settings.specs.declared.error.SettingsError.{SettingsError}
 use Rattle.pylock_run.specs.Report.{Report}
 use Rattle.pylock_run.specs.Report.Print.{Prints}
 use Rattle.pylock_run.specs.Stream.{SinkValue}
@@ -65,13 +74,60 @@ installed_printed Lines diagnostic error = line_of (codes "installed") (installe
 installed_printed Json diagnostic error =
     words_json (codes "installed" ∷ installed_words error) diagnostic
 
+-- what is refused, by a word, why, by another, and where it is wrong
+abbrev pub placed_printed : Form → Option DiagnosticValue → List ℕ → List ℕ → Option (List ℕ)
+    → List ℕ
+placed_printed Lines diagnostic what word place = line_of what
+    (word ∷ option_to_list (option_map (λ p. field (Some p)) place))
+placed_printed Json diagnostic what word place =
+    words_json (what ∷ word ∷ option_to_list place) diagnostic
+
 -- a refused project file: its word, and where it is wrong
 abbrev pub project_printed : Form → Option DiagnosticValue → ProjectError → List ℕ
-project_printed Lines diagnostic error = line_of (codes "project")
-    (project_word error ∷ option_to_list (option_map (λ p. field (Some p)) (project_place error)))
-project_printed Json diagnostic error =
-    words_json (codes "project" ∷ project_word error ∷ option_to_list (project_place error))
-    diagnostic
+project_printed form diagnostic error =
+    placed_printed form diagnostic (codes "project") (project_word error) (project_place error)
+
+-- refused settings of an audit: their word, and where they are wrong
+abbrev pub settings_printed : Form → Option DiagnosticValue → SettingsError → List ℕ
+settings_printed form diagnostic error =
+    placed_printed form diagnostic (codes "config") (settings_word error) (settings_place error)
+
+-- a text that is the word of no finding, or the name of no package; out of memory is no refusal,
+-- and is never printed
+abbrev pub policy_words : PolicyError → List ℕ × Option (List ℕ)
+policy_words (policy.UnknownFinding text) = (codes "finding", Some text)
+policy_words (policy.NoName text) = (codes "name", Some text)
+policy_words policy.Memory = (codes "memory", None)
+
+abbrev pub policy_printed : Form → Option DiagnosticValue → PolicyError → List ℕ
+policy_printed Lines diagnostic error =
+    placed_printed Lines diagnostic (codes "refused") (policy_words error).0 (policy_words error).1
+policy_printed Json diagnostic error =
+    words_json ((policy_words error).0 ∷ option_to_list (policy_words error).1) diagnostic
+
+-- a refused file of advisories: its number among them, the place of the advisory in it, both from
+-- 1, and what is wrong there; out of memory is no refusal, and is never printed
+abbrev pub reason_word : AdvisoryError → List ℕ
+reason_word advisory.Json = codes "json"
+reason_word advisory.Object = codes "object"
+reason_word (advisory.Member member) = codes "member"
+reason_word advisory.Memory = codes "memory"
+
+abbrev pub advisory_words : AdvisoryError → List (List ℕ)
+advisory_words (advisory.Member member) =
+    reason_word (advisory.Member member) ∷ member_name member ∷ []
+advisory_words error = reason_word error ∷ []
+
+abbrev pub advisories_words : ℕ → AdvisoriesError → List (List ℕ)
+advisories_words number (file.Advisory place error) =
+    decimal number ∷ decimal place ∷ advisory_words error
+advisories_words number file.Memory = codes "memory" ∷ []
+
+abbrev pub advisories_printed : Form → Option DiagnosticValue → ℕ → AdvisoriesError → List ℕ
+advisories_printed Lines diagnostic number error =
+    line_of (codes "advisories") (advisories_words number error)
+advisories_printed Json diagnostic number error =
+    words_json (codes "advisories" ∷ advisories_words number error) diagnostic
 
 -- an option that is refused: its word, without the dashes, and its text
 abbrev pub option_printed : Form → Option DiagnosticValue → PlanOption → List ℕ
@@ -84,6 +140,10 @@ cause_printed form diagnostic (cause.Unopened unopened) = unopened_printed form 
 cause_printed form diagnostic (cause.Side side error) = side_printed form diagnostic side error
 cause_printed form diagnostic (cause.Installed error) = installed_printed form diagnostic error
 cause_printed form diagnostic (cause.Project error) = project_printed form diagnostic error
+cause_printed form diagnostic (cause.Settings error) = settings_printed form diagnostic error
+cause_printed form diagnostic (cause.Policy error) = policy_printed form diagnostic error
+cause_printed form diagnostic (cause.Advisories number error) =
+    advisories_printed form diagnostic number error
 cause_printed form diagnostic (cause.Option option) = option_printed form diagnostic option
 
 -- 1: an option is refused

@@ -1,8 +1,10 @@
 //! Lines for a person, on standard error. They say nothing that the printed answer rests on.
 
+pub(crate) mod audit;
 pub(crate) mod expected;
 pub(crate) mod export;
 pub(crate) mod fault;
+pub(crate) mod left;
 pub(crate) mod matrix;
 pub(crate) mod options;
 pub(crate) mod refusal;

@@ -1,9 +1,9 @@
 //! What the paths of the command line give: `-` is standard input, and any other path a file.
 
-ghost use Rattle.std.specs.Prelude.{◌≡◌};
+ghost use Rattle.std.specs.Prelude.{◌≡◌, map, option_map};
 ghost use Rattle.std.specs.Result.{result_map_both};
 ghost use Rattle.pylock_program.specs.Inner.Machine.{machine_read};
-ghost use Rattle.pylock_program.specs.Paths.{IsMachineRead, IsRead, IsReadAs};
+ghost use Rattle.pylock_program.specs.Paths.{AreRead, IsMachineRead, IsMaybeRead, IsRead, IsReadAs};
 ghost use Rattle.pylock_readers.specs.Input.{input_env_of};
 
 use crate::diagnostics::tell_file;
@@ -88,6 +88,48 @@ pub(crate) fn read_bytes<'a, F: Files, R: Source, W: Sink, N: Sink>(
             tell_file(alloc, &mut host.outputs.diagnostics, path, fault);
             Err(Failure::File)
         }
+    }
+}
+
+/// What stands at each of these paths, as [`read_bytes`] reads it, in order.
+pub(crate) fn read_each<'a, F: Files, R: Source, W: Sink, N: Sink>(
+    alloc: Global,
+    host: &mut Host<F, R, W, N>,
+    paths: &[&'a str],
+) -> Result<Vec<FileBytes<'a>>, Failure>
+    ensures read { AreRead (F.read_gives host.old.files) (map (λ path. path.now) paths.now)
+        (R.value host.old.reader) (R.value host.new.reader)
+        (result_map_both (λ files. map (λ file. file.bytes.items) files.items)
+        (λ failure. failure) result) }
+    ensures files { host.new.files ≡ host.old.files }
+    ensures writer { host.new.outputs.writer ≡ host.old.outputs.writer }
+{
+    let mut files = Vec::new(alloc);
+    for path in paths {
+        let file = read_bytes(alloc, host, path)?;
+        let Ok(()) = files.push(file) else {
+            return Err(Failure::Memory);
+        };
+    }
+    Ok(files)
+}
+
+/// What stands at a path, if there is one, as [`read_bytes`] reads it.
+pub(crate) fn read_maybe<'a, F: Files, R: Source, W: Sink, N: Sink>(
+    alloc: Global,
+    host: &mut Host<F, R, W, N>,
+    path: Option<&'a str>,
+) -> Result<Option<FileBytes<'a>>, Failure>
+    ensures read { IsMaybeRead (F.read_gives host.old.files) path.entry
+        (R.value host.old.reader) (R.value host.new.reader)
+        (result_map_both (λ file. option_map (λ f. f.bytes.items) file)
+        (λ failure. failure) result) }
+    ensures files { host.new.files ≡ host.old.files }
+    ensures writer { host.new.outputs.writer ≡ host.old.outputs.writer }
+{
+    match path {
+        Some(path) => Ok(Some(read_bytes(alloc, host, path)?)),
+        None => Ok(None),
     }
 }
 

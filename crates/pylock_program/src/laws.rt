@@ -1,8 +1,11 @@
 //! Laws of the definitions alone: each function's contract is a law, and its body is empty.
 
-ghost use Rattle.std.specs.Prelude.{◌≡◌, ◌≢◌, ℕ, List, [], Ok, Option, true, false};
+ghost use Rattle.std.specs.Prelude.{◌≡◌, ◌≢◌, ℕ, List, [], None, Ok, Option, Result, true, false};
 ghost use Rattle.std.specs.List.{All};
 ghost use Rattle.pylock_audit.specs.Strict.{strict_findings_of};
+ghost use Rattle.pylock_command.specs.declared.form.Form.{Form};
+ghost use Rattle.pylock_command.specs.declared.task.AuditOutput.TheVariants.{Shown};
+ghost use Rattle.pylock_command.specs.declared.task.AuditQuestion.{AuditQuestion};
 ghost use Rattle.pylock_command.specs.declared.task.MatrixQuestion.{MatrixQuestion};
 ghost use Rattle.pylock_command.specs.declared.task.Question.{Question as QuestionValue};
 ghost use Rattle.pylock_core.specs.Session.State.{State};
@@ -10,7 +13,12 @@ ghost use Rattle.pylock_matrix.specs.Cell.{CellValue};
 ghost use Rattle.pylock_matrix.specs.Moving.{placed};
 ghost use Rattle.pylock_readers.specs.Environment.{EnvironmentRead};
 ghost use Rattle.pylock_messages.specs.Diagnostic.{DiagnosticValue};
+ghost use Rattle.pylock_run.specs.Stream.{SinkValue};
+ghost use Rattle.pylock_run.specs.declared.report.fault.RunFault.{RunFault};
+ghost use Rattle.pylock_program.specs.Audit.{PrintsAudit, opened_audit};
 ghost use Rattle.pylock_program.specs.Matrix.{asked_settings, opened_matrix, plan_state};
+ghost use Rattle.pylock_program.specs.Refusal.{PrintsTelling};
+ghost use Rattle.pylock_program.specs.Reply.{audit_report};
 ghost use Rattle.pylock_program.specs.Show.{question_report, with_strict};
 
 /// A strict plan is the plan: where nothing is found in a lock that a strict reading refuses,
@@ -28,6 +36,18 @@ pub fn strict_plan()
         → (question_report (with_strict true question) diagnostic lock environment).status ≢ 2
         → question_report (with_strict true question) diagnostic lock environment
         ≡ question_report (with_strict false question) diagnostic lock environment }
+{}
+
+/// Where nothing is asked besides, `audit` prints what [`push_audit`](crate::push_audit) pushes:
+/// all that is found in the lock alone counts, and the status is 1 where that is something.
+#[tactic(auto, using(crate::proofs::PlainAuditLemmas::plain_audits))]
+pub fn plain_audit()
+    ensures { (asked : AuditQuestion) (form : Form) (lock : List ℕ) (sink sink' : SinkValue)
+        (result : Result ℕ RunFault)
+        → asked.output ≡ Shown form → asked.environments ≡ false → asked.hosts.items ≡ []
+        → asked.ignored.items ≡ [] → asked.fail_on ≡ None
+        → PrintsAudit asked lock (opened_audit asked lock [] None) sink sink' result
+        → PrintsTelling (λ diagnostic. audit_report form diagnostic lock) sink sink' result }
 {}
 
 /// Each row is what `plan` answers: moved to a target, the session of `matrix` is in the state that

@@ -9,7 +9,8 @@ ghost use Rattle.pylock_command.specs.PlanOptions.{option_words};
 ghost use Rattle.pyver_core.specs.Name.{normal_name};
 ghost use Rattle.pylock_core.specs.Session.State.{after_edits, in_turn};
 ghost use Rattle.pylock_program.specs.PlanOptions.{after_option, after_options};
-ghost use Rattle.pylock_program.specs.PlanOptions.{edit_of_name, edits_of, name_edit, policies};
+ghost use Rattle.pylock_program.specs.PlanOptions.{edit_of_name, edits_of, has_entry, name_edit};
+ghost use Rattle.pylock_program.specs.PlanOptions.{no_edits_if, policies};
 ghost use Rattle.pylock_program.specs.PlanOptions.{set_variable, setting_of};
 ghost use Rattle.pylock_program.specs.declared.options.NameEdit.TheVariants as name_edits;
 ghost use Rattle.pylock_program.specs.Inner.Chosen.{state_if, state_or_refused};
@@ -20,7 +21,7 @@ use pylock_core::{Edit, EditError, NameChange, Policy, Session};
 use pylock_matrix::Setting;
 use pymark_core::{Change, Var};
 use pytext::Text;
-use pyver_core::{NormalName, is_name};
+use pyver_core::{NormalName, is_name, is_same_name};
 use std::alloc::{AllocError, Global};
 
 /// Makes the edits of the options, one after another, up to the first that is refused, which it
@@ -135,7 +136,39 @@ fn edit_of(
         PlanOption::OnlyBinary(name) => policy_edit(alloc, session, Policy::Wheel, name),
         PlanOption::NoBinary(name) => policy_edit(alloc, session, Policy::Source, name),
         PlanOption::Set(text) => set_variable(alloc, text),
+        PlanOption::Only(name) | PlanOption::Except(name) => {
+            Ok(no_edit_if(alloc, has_entry(session, name)))
+        }
+        PlanOption::NoProject => Ok(no_edit_if(alloc, true)),
     }
+}
+
+/// An edit that changes nothing, where that is so.
+fn no_edit_if(alloc: Global, is_so: bool) -> Option<Edit>
+    ensures { option_map in_turn result ≡ no_edits_if is_so }
+{
+    if is_so {
+        Some(Edit::Policies(Vec::new(alloc), Policy::Any))
+    } else {
+        None
+    }
+}
+
+/// Whether an entry has this name.
+fn has_entry(session: &Session, name: &str) -> bool
+    ensures { result ≡ has_entry session.now.state name.now }
+{
+    if !is_name(name) {
+        return false;
+    }
+    for entry in session.entries() {
+        if let Some(entry) = entry {
+            if is_same_name(name, entry.name()) {
+                return true;
+            }
+        }
+    }
+    false
 }
 
 /// The change for each of these names.
@@ -264,5 +297,8 @@ pub(crate) fn option_words<'a>(option: PlanOption<'a>) -> (&'a str, Option<&'a s
         PlanOption::OnlyBinary(text) => ("only-binary", Some(text)),
         PlanOption::NoBinary(text) => ("no-binary", Some(text)),
         PlanOption::Set(text) => ("set", Some(text)),
+        PlanOption::Only(text) => ("only", Some(text)),
+        PlanOption::Except(text) => ("except", Some(text)),
+        PlanOption::NoProject => ("no-project", None),
     }
 }

@@ -59,7 +59,7 @@ pub fn perform<F: Files, R: Source, W: Sink, N: Sink>(
         Task::Check(asked) => check_project(alloc, &asked, host),
         Task::Summary(lock, form) => show_summary(alloc, lock, form, host),
         Task::Files(lock, output) => list_files(alloc, lock, output, host),
-        Task::Audit(asked) => audit_lock(alloc, asked, host),
+        Task::Audit(asked) => audit_lock(alloc, &asked, host),
         Task::Diff(asked) => compare(alloc, &asked, host),
         Task::Marker(text, machine, form) => judge_marker(alloc, text, machine, form, host),
         Task::Environment(target) => program_end(print_target(alloc, target, &mut host.outputs)),

@@ -14,6 +14,7 @@ ghost use Rattle.pylock_run.specs.Report.Print.{Prints};
 ghost use Rattle.pylock_run.specs.declared.report.fault.RunFault.TheVariants as fault;
 ghost use Rattle.pylock_run.specs.declared.report.opening.OpenError.TheVariants as open_error;
 
+use crate::diagnostics::audit::{advisories_diagnostic, policy_diagnostic, settings_diagnostic};
 use crate::diagnostics::refusal::{
     environment_refusal, findings_diagnostic, installed_diagnostic, project_diagnostic,
 };
@@ -22,20 +23,24 @@ use crate::file::{FileBytes, MachineInput};
 use crate::host::Outputs;
 use crate::opening::Unopened;
 use crate::options::option_words;
+use crate::text::advisories::push_advisories_refusal;
 use crate::text::audit::push_findings;
 use crate::text::installed::push_installed_refusal;
 use crate::text::json::{push_option_json, push_refusal_json, push_words};
-use crate::text::project::push_project_refusal;
+use crate::text::placed::{push_policy_refusal, push_project_refusal, push_settings_refusal};
+use pylock_advisories::AdvisoriesError;
 use pylock_audit::{Findings, LockFinding, findings_document};
 use pylock_check::ProjectError;
 use pylock_command::{Form, PlanOption};
 use pylock_core::{EnvError, LockError};
 use pylock_documents::push_document;
+use pylock_findings::PolicyError;
 use pylock_installed::InstalledError;
 use pylock_messages::{Diagnostic, lock_diagnostic};
 use pylock_run::{
     OpenError, RunFault, Sink, lock_words, print, push_next_field, push_refusal, push_side_error,
 };
+use pylock_settings::SettingsError;
 use std::alloc::{AllocError, Global};
 
 /// The status where an option is refused.
@@ -75,6 +80,12 @@ pub(crate) enum Cause<'a> {
     Installed(InstalledError),
     /// The project file is refused.
     Project(ProjectError),
+    /// The settings of an audit are refused.
+    Settings(SettingsError),
+    /// The words that say which findings count are refused.
+    Policy(PolicyError),
+    /// The file of advisories of this number, from 1, is refused.
+    Advisories(usize, AdvisoriesError),
     /// An option is refused.
     Option(PlanOption<'a>),
 }
@@ -186,6 +197,38 @@ impl<'a> Refusal<'a> {
         Refusal { cause, diagnostic }
     }
 
+    /// The settings of an audit are refused, in the file at this path.
+    pub(crate) fn of_settings(alloc: Global, error: SettingsError, path: &str) -> Refusal<'a>
+        ensures { result.cause ≡ cause.Settings error }
+    {
+        let diagnostic = settings_diagnostic(alloc, &error, path);
+        let cause = Cause::Settings(error);
+        Refusal { cause, diagnostic }
+    }
+
+    /// The words that say which findings count are refused.
+    pub(crate) fn of_policy(alloc: Global, error: PolicyError) -> Refusal<'a>
+        ensures { result.cause ≡ cause.Policy error }
+    {
+        let diagnostic = policy_diagnostic(alloc, &error);
+        let cause = Cause::Policy(error);
+        Refusal { cause, diagnostic }
+    }
+
+    /// The file of advisories of this number is refused.
+    pub(crate) fn of_advisories(
+        alloc: Global,
+        number: usize,
+        error: AdvisoriesError,
+        file: &FileBytes<'_>,
+    ) -> Refusal<'a>
+        ensures { result.cause ≡ cause.Advisories number error }
+    {
+        let diagnostic = advisories_diagnostic(alloc, &error, file);
+        let cause = Cause::Advisories(number, error);
+        Refusal { cause, diagnostic }
+    }
+
     /// One of two locks is refused.
     pub(crate) fn of_side(
         alloc: Global,
@@ -294,6 +337,11 @@ fn push_cause(
         Cause::Side(side, error) => push_side(alloc, out, (form, *side), error, diagnostic),
         Cause::Installed(error) => push_installed_refusal(alloc, out, form, error, diagnostic),
         Cause::Project(error) => push_project_refusal(alloc, out, form, error, diagnostic),
+        Cause::Settings(error) => push_settings_refusal(alloc, out, form, error, diagnostic),
+        Cause::Policy(error) => push_policy_refusal(alloc, out, form, error, diagnostic),
+        Cause::Advisories(number, error) => {
+            push_advisories_refusal(alloc, out, form, (*number, error), diagnostic)
+        }
         Cause::Option(option) => push_option(alloc, out, form, *option, diagnostic),
     }
 }

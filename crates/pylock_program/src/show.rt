@@ -5,18 +5,21 @@ ghost use Rattle.pylock_core.specs.Session.Steps.{answer as answer_of};
 ghost use Rattle.pylock_program.specs.Inner.Machine.{machine_read};
 ghost use Rattle.pylock_program.specs.Program.{Opens, OpensMachine, RepliesTelling};
 ghost use Rattle.pylock_program.specs.Refusal.{PrintsTelling};
-ghost use Rattle.pylock_program.specs.Show.{output_form, output_report, question_report};
+ghost use Rattle.pylock_program.specs.Show.{answer_report, output_form, output_report};
+ghost use Rattle.pylock_program.specs.Show.{question_report, shown as shown_in, shown_report};
 ghost use Rattle.pylock_program.specs.Show.{view_report, view_shown};
 ghost use Rattle.pylock_run.specs.Report.{is_plan};
 ghost use Rattle.pylock_run.specs.Report.Print.{Prints};
 
 use crate::bill::write_bill;
 use crate::diagnostics::fault::tell_fault;
+use crate::diagnostics::left::tell_left_out;
 use crate::diagnostics::options::tell_options;
 use crate::export::write_plan_export;
 use crate::failure::{Failure, program_end};
 use crate::file::{Inputs, read_bytes, read_machine};
 use crate::host::{Host, Outputs};
+use crate::left::left_answer;
 use crate::opening::open_question;
 use crate::refusal::write_refusal;
 use crate::text::explain::push_explanation;
@@ -100,23 +103,45 @@ fn write_output<W: Sink, N: Sink>(
     session: &Session,
     outputs: &mut Outputs<W, N>,
 ) -> Result<u8, RunFault>
-    ensures { Prints (output_report question.now.output lock.now session.now.state)
+    ensures { Prints (output_report question.now.options.items question.now.output lock.now
+        session.now.state)
         (W.value outputs.old.writer) (W.value outputs.new.writer) result }
 {
     let answer = session.answer()?;
-    let end = match question.output {
-        Output::View(view, form) => {
-            write_view(alloc, (view, form), session, &answer, &mut outputs.writer)
-        }
-        Output::Tool(format, base) => {
-            write_plan_export(alloc, format, base, session, &answer, outputs)
-        }
-        Output::Bill(format) => write_bill(alloc, format, lock, session, &answer, outputs),
-    };
+    let (answer, left_out) = left_answer(&question.options, session, answer);
+    let end = write_left(alloc, question.output, lock, session, &answer, outputs);
     if end.is_ok() {
         tell_answer(alloc, &mut outputs.diagnostics, question, session, &answer);
+        tell_left_out(alloc, &mut outputs.diagnostics, left_out);
     }
     end
+}
+
+/// Writes an answer, as it is asked for.
+fn write_left<W: Sink, N: Sink>(
+    alloc: Global,
+    output: Output<'_>,
+    lock: &[u8],
+    session: &Session,
+    answer: &Answer,
+    outputs: &mut Outputs<W, N>,
+) -> Result<u8, RunFault>
+    ensures { Prints (answer_report output.entry lock.now session.now.state answer.now)
+        (W.value outputs.old.writer) (W.value outputs.new.writer) result }
+{
+    match output {
+        Output::View(view, form) => write_shown(
+            alloc,
+            (view, form),
+            session,
+            answer,
+            &mut outputs.writer,
+        ),
+        Output::Tool(format, base) => {
+            write_plan_export(alloc, format, base, session, answer, outputs)
+        }
+        Output::Bill(format) => write_bill(alloc, format, lock, session, answer, outputs),
+    }
 }
 
 /// Tells what the options may not do as they seem to, and of `plan` where a fault is, and why.
@@ -154,6 +179,20 @@ pub(crate) fn write_view<W: Sink>(
     ensures { Prints (view_report shown.0 shown.1 session.now.state)
         (W.value writer.old) (W.value writer.new) result }
 {
+    write_shown(alloc, shown, session, answer, writer)
+}
+
+/// Writes an answer, or what becomes of each entry of the session, in the form.
+fn write_shown<W: Sink>(
+    alloc: Global,
+    shown: (View, Form),
+    session: &Session,
+    answer: &Answer,
+    writer: &mut W,
+) -> Result<u8, RunFault>
+    ensures { Prints (shown_report shown.0 shown.1 session.now.state answer.now)
+        (W.value writer.old) (W.value writer.new) result }
+{
     let mut out = Vec::new(alloc);
     push_answered(alloc, &mut out, shown, session, answer)?;
     let status = if matches!(answer, Answer::Plan(_)) {
@@ -183,7 +222,7 @@ pub fn push_view(
     Ok(matches!(answer, Answer::Plan(_)))
 }
 
-/// Pushes the view of the session in the form, with the answer as it stands.
+/// Pushes an answer, or what becomes of each entry of the session, in the form.
 fn push_answered(
     alloc: Global,
     out: &mut Vec<u8>,
@@ -191,9 +230,8 @@ fn push_answered(
     session: &Session,
     answer: &Answer,
 ) -> Result<(), AllocError>
-    requires { answer.now ≡ answer_of session.now.state }
     ensures { OnOk result (out.new.items
-        ≡ out.old.items ++ view_shown shown.0 shown.1 session.now.state) }
+        ≡ out.old.items ++ shown_in shown.0 shown.1 session.now.state answer.now) }
 {
     match shown {
         (View::Plan, Form::Lines) => push_answer(out, session, answer),

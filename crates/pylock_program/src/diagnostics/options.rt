@@ -60,6 +60,9 @@ fn refusal_reason(
             format!(in alloc; "not a group of {path}; {known}")
         }
         PlanOption::Set(text) => set_refusal_reason(alloc, text),
+        PlanOption::Only(name) | PlanOption::Except(name) if is_name(name) => {
+            format!(in alloc; "{path} has no such package")
+        }
         _ => String::from_str(alloc, "not a name"),
     }
 }
