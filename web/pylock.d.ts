@@ -67,6 +67,47 @@ export interface FilesDocument {
 export interface AuditDocument {
   pylock: 1;
   findings: { id: number; name?: string; finding: string; detail?: string }[];
+  /** How many were left out, if any was. */
+  ignored?: number;
+}
+
+export interface AuditOptions {
+  /** Looks at every environment that the lock is for too. */
+  environments?: boolean;
+  /** Files of advisories in OSV's format. */
+  advisories?: readonly Text[];
+  /** Tells each source that names another host than these, if there are any. */
+  hosts?: readonly string[];
+  /** Findings that are left out: "no-hash" of all packages, "no-hash:NAME" of one. */
+  ignore?: readonly string[];
+}
+
+/** Where a lock isn't a project's any more, or the fault of the plan. */
+export interface CheckDocument {
+  pylock: 1;
+  differences?: { difference: string; where?: string; name?: string; detail?: string }[];
+  fault?: Fault;
+}
+
+/** What is to be done in an environment, or the fault of the plan. */
+export interface StatusDocument {
+  pylock: 1;
+  /** Whether nothing is to be done. */
+  done?: boolean;
+  steps?: { step: "install" | "replace" | "keep" | "remove"; name: string; version?: string; from?: string; id?: number }[];
+  fault?: Fault;
+}
+
+/** What a lock says of itself, and how many entries have such a source. */
+export interface ShowDocument extends Record<Kind, number> {
+  pylock: 1;
+  "created-by": string;
+  "requires-python"?: string;
+  environments: string[];
+  extras: string[];
+  "dependency-groups": string[];
+  "default-groups": string[];
+  packages: number;
 }
 
 export interface DiffDocument {
@@ -132,8 +173,19 @@ export class Pylock {
   explain(lock: Text, environment: Environment, options?: Options): ExplainDocument;
   /** Every source that a lock names. */
   files(lock: Text): FilesDocument;
-  /** What a careful reader of a lock should know; if asked for, in every environment that it is for too. */
-  audit(lock: Text, options?: { environments?: boolean }): AuditDocument;
+  /** What a lock says of itself. */
+  show(lock: Text): ShowDocument;
+  /** What a careful reader of a lock should know. */
+  audit(lock: Text, options?: AuditOptions): AuditDocument;
+  /** Where a lock isn't the project's any more whose pyproject.toml is given, by its plan in an environment. */
+  check(lock: Text, project: Text, environment: Environment, options?: Options): CheckDocument;
+  /**
+   * What is to be done so that an environment has the plan. `installed` is what `pip list --format json` or `pip inspect` prints
+   * there, or what JSON.parse makes of it; with `exact`, pip, setuptools and wheel go too.
+   */
+  status(
+    lock: Text, environment: Environment, installed: Text | object, options?: Options & { exact?: boolean },
+  ): StatusDocument;
   /** What a change of a lock means; in an environment, what it means for the plan there. */
   diff(old: Text, lock: Text, environment?: Environment, options?: Options): DiffDocument;
   /** The head of a lock. */

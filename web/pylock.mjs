@@ -29,6 +29,8 @@ function bytesOf(value) {
   return value instanceof Uint8Array ? value : new Uint8Array(value);
 }
 
+const isText = (value) => typeof value === "string" || value instanceof ArrayBuffer || ArrayBuffer.isView(value);
+
 /** Why a text, a lock, an environment or a command line is refused, or why there is no answer. */
 export class PylockError extends Error {
   constructor(message, details = {}) {
@@ -48,7 +50,9 @@ export class PylockError extends Error {
 function refusalOf(document, status) {
   const fields = document.refused.map(String);
   const { line, column } = document;
-  return new PylockError(document.message ?? fields.join(" "), { word: fields[0], fields, line, column, status });
+  // of an option whose text isn't of the lock, `refused` comes before the word
+  const word = fields[0] === "refused" ? fields[1] : fields[0];
+  return new PylockError(document.message ?? fields.join(" "), { word, fields, line, column, status });
 }
 
 /** What can't be done for want of memory. */
@@ -325,10 +329,39 @@ export class Pylock {
     return this.#document(["files", "pylock.toml", "--json"], { "pylock.toml": lock });
   }
 
-  /** What a careful reader of a lock should know; if asked for, in every environment that it is for too. */
-  audit(lock, { environments = false } = {}) {
-    const words = ["audit", "pylock.toml", "--json", ...(environments ? ["--environments"] : [])];
-    return this.#document(words, { "pylock.toml": lock });
+  /** What a lock says of itself. */
+  show(lock) {
+    return this.#document(["show", "pylock.toml", "--json"], { "pylock.toml": lock });
+  }
+
+  /**
+   * What a careful reader of a lock should know; if asked for, in every environment that it is for too, by files of advisories, and
+   * of hosts that are none of these. What is to be ignored is left out.
+   */
+  audit(lock, { environments = false, advisories = [], hosts = [], ignore = [] } = {}) {
+    const files = advisories.map((file, at) => [`advisories-${at + 1}`, file]);
+    const words = ["audit", "pylock.toml", "--json"];
+    if (environments) words.push("--environments");
+    for (const [name] of files) words.push(`--advisories=${name}`);
+    for (const host of hosts) words.push(`--host=${host}`);
+    for (const finding of ignore) words.push(`--ignore=${finding}`);
+    return this.#document(words, { "pylock.toml": lock, ...Object.fromEntries(files) });
+  }
+
+  /** Where a lock isn't the project's any more whose pyproject.toml is given, by its plan in an environment. */
+  check(lock, project, environment, options = {}) {
+    const [place, files] = machine(environment);
+    const words = ["check", "pylock.toml", "pyproject.toml", ...place, "--json", ...optionWords(options)];
+    return this.#document(words, { "pylock.toml": lock, "pyproject.toml": project, ...files });
+  }
+
+  /** What is to be done so that an environment has the plan, by what pip lists there: a text, or what JSON makes of it. */
+  status(lock, environment, installed, options = {}) {
+    const [place, files] = machine(environment);
+    const words = ["status", "pylock.toml", ...place, "--installed=installed.json", "--json", ...optionWords(options)];
+    if (options.exact) words.push("--exact");
+    const list = isText(installed) ? installed : JSON.stringify(installed);
+    return this.#document(words, { "pylock.toml": lock, "installed.json": list, ...files });
   }
 
   /** What a change of a lock means; in an environment, what it means for the plan there. */

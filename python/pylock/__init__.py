@@ -30,16 +30,19 @@ if TYPE_CHECKING:
     from ._answers import Answer, Outcome
     from ._environment import VARIABLES, Environment, environment
     from ._errors import (
+        InvalidAdvisories,
         InvalidEdit,
         InvalidEnvironment,
+        InvalidInstalled,
         InvalidLock,
+        InvalidProject,
         InvalidTarget,
         PlanFault,
         Refusal,
         StrictRefusal,
         WrongThread,
     )
-    from ._lock import Explanation, Finding, Lock, Options, Package, Pick, Session, Verdict
+    from ._lock import Difference, Explanation, Finding, Lock, Options, Package, Pick, Session, Step, Verdict
     from .markers import (
         InvalidMarker,
         Marker,
@@ -66,15 +69,15 @@ if TYPE_CHECKING:
     from .version import VERSION_PATTERN, InvalidVersion, Version, parse, parse_all, sorted_versions, version_key
 
 __all__ = [
-    "Answer", "BuildTag", "Environment", "Explanation", "Finding", "InvalidEdit", "InvalidEnvironment", "InvalidLock",
-    "InvalidMarker", "InvalidName", "InvalidRequirement", "InvalidSdistFilename", "InvalidSpecifier", "InvalidTag",
-    "InvalidTarget", "InvalidVersion", "InvalidWheelFilename", "Lock", "Marker", "MarkerFault", "NormalizedName",
-    "Options", "Outcome", "Package", "Pick", "PlanFault", "Refusal", "Requirement", "Session", "Specifier", "SpecifierSet",
-    "StrictRefusal", "Tag", "UndefinedComparison", "UndefinedEnvironmentName", "UnsortedTagsError", "VARIABLES",
-    "VERSION_PATTERN", "Verdict", "Version", "WrongThread", "canonicalize_name", "canonicalize_version",
-    "default_environment", "environment", "is_normalized_name", "markers", "parse", "parse_all", "parse_sdist_filename",
-    "parse_tag", "parse_wheel_filename", "requirements", "sorted_versions", "specifiers", "tags", "utils", "version",
-    "version_key",
+    "Answer", "BuildTag", "Difference", "Environment", "Explanation", "Finding", "InvalidAdvisories", "InvalidEdit",
+    "InvalidEnvironment", "InvalidInstalled", "InvalidLock", "InvalidMarker", "InvalidName", "InvalidProject",
+    "InvalidRequirement", "InvalidSdistFilename", "InvalidSpecifier", "InvalidTag", "InvalidTarget", "InvalidVersion",
+    "InvalidWheelFilename", "Lock", "Marker", "MarkerFault", "NormalizedName", "Options", "Outcome", "Package", "Pick",
+    "PlanFault", "Refusal", "Requirement", "Session", "Specifier", "SpecifierSet", "Step", "StrictRefusal", "Tag",
+    "UndefinedComparison", "UndefinedEnvironmentName", "UnsortedTagsError", "VARIABLES", "VERSION_PATTERN", "Verdict",
+    "Version", "WrongThread", "canonicalize_name", "canonicalize_version", "default_environment", "environment",
+    "is_normalized_name", "markers", "parse", "parse_all", "parse_sdist_filename", "parse_tag", "parse_wheel_filename",
+    "requirements", "sorted_versions", "specifiers", "tags", "utils", "version", "version_key",
 ]
 
 
@@ -103,12 +106,12 @@ _MODULES = {
     "_answers": ("Answer", "Outcome"),
     "_environment": ("VARIABLES", "Environment", "environment"),
     "_errors": (
-        "InvalidEdit", "InvalidEnvironment", "InvalidLock", "InvalidMarker", "InvalidName", "InvalidRequirement",
-        "InvalidSdistFilename", "InvalidSpecifier", "InvalidTag", "InvalidTarget", "InvalidVersion", "InvalidWheelFilename",
-        "MarkerFault", "PlanFault", "Refusal", "StrictRefusal", "UndefinedComparison", "UndefinedEnvironmentName",
-        "UnsortedTagsError", "WrongThread",
+        "InvalidAdvisories", "InvalidEdit", "InvalidEnvironment", "InvalidInstalled", "InvalidLock", "InvalidMarker",
+        "InvalidName", "InvalidProject", "InvalidRequirement", "InvalidSdistFilename", "InvalidSpecifier", "InvalidTag",
+        "InvalidTarget", "InvalidVersion", "InvalidWheelFilename", "MarkerFault", "PlanFault", "Refusal", "StrictRefusal",
+        "UndefinedComparison", "UndefinedEnvironmentName", "UnsortedTagsError", "WrongThread",
     ),
-    "_lock": ("Explanation", "Finding", "Lock", "Options", "Package", "Pick", "Session", "Verdict"),
+    "_lock": ("Difference", "Explanation", "Finding", "Lock", "Options", "Package", "Pick", "Session", "Step", "Verdict"),
     "markers": ("Marker", "default_environment"),
     "requirements": ("Requirement",),
     "specifiers": ("Specifier", "SpecifierSet"),
@@ -142,7 +145,7 @@ def __dir__() -> "list[str]":
     return sorted({*globals(), *__all__})
 
 
-__version__ = "1.12.0"
+__version__ = "1.13.0"
 
 # what `packaging` tells of itself, as far as this module has it (docs/PRIVATE.md)
 __title__ = "pylock"

@@ -267,14 +267,18 @@ class UnsortedTagsError(TextRefusal):
     __module__ = "pylock.tags"
 
 
-class InvalidLock(Refusal):
-    """Bytes are no `pylock.toml` (PEP 751). `words` are those that the program prints."""
-
-    __module__ = "pylock"
+class InputRefusal(Refusal):
+    """A file is refused. `words` are those that the program prints of it."""
 
     def __init__(self, *args: object, word: str = "", place: Place = None, words: Tuple[str, ...] = ()) -> None:
         super().__init__(*args, word=word, place=place)
         self.words = words
+
+
+class InvalidLock(InputRefusal):
+    """Bytes are no `pylock.toml` (PEP 751). `words` are those that the program prints."""
+
+    __module__ = "pylock"
 
 
 class StrictRefusal(InvalidLock):
@@ -304,6 +308,38 @@ class InvalidEnvironment(InvalidLock):
     """An environment isn't of the form of docs/FORMATS.md. `words` are those that the program prints."""
 
     __module__ = "pylock"
+
+
+class InvalidProject(InputRefusal):
+    """A `pyproject.toml` can't be read as `Lock.check` reads it (docs/FORMATS.md, `check`).
+
+    `word` is as `requirement`, and `place` the key, as `project.dependencies 2`, or None.
+    """
+
+    __module__ = "pylock"
+
+
+class InvalidInstalled(InputRefusal):
+    """What is installed isn't told as pip tells it (docs/FORMATS.md, `status`).
+
+    `word` is as `element`, and `place` the number of the element, from 1, or None.
+    """
+
+    __module__ = "pylock"
+
+
+class InvalidAdvisories(InputRefusal):
+    """A file of advisories isn't of OSV's format (docs/FORMATS.md, `audit`).
+
+    `word` is as `json`, and `place` the number of the advisory in its file, from 1.
+    """
+
+    __module__ = "pylock"
+
+    @property
+    def file(self) -> Optional[int]:
+        """The number of the file among those that are given, from 1."""
+        return int(self.words[0]) if self.words else None
 
 
 class InvalidEdit(TextRefusal):

@@ -6,19 +6,21 @@ import json
 import threading
 from itertools import groupby
 from typing import (
-    TYPE_CHECKING, Any, Dict, Iterable, List, Mapping, NamedTuple, NoReturn, Optional, Tuple, TypedDict, Union,
+    TYPE_CHECKING, Any, Dict, Iterable, List, Mapping, NamedTuple, NoReturn, Optional, Sequence, Tuple, TypedDict, Union, cast,
 )
 
 from . import _library as _native
+from . import _program
 from ._environment import VARIABLES, Environment, environment_bytes, read_source
 from ._errors import InvalidEdit, PlanFault, StrictRefusal, WrongThread
 from .markers import Marker
 from .specifiers import SpecifierSet
+from .utils import canonicalize_name
 
 if TYPE_CHECKING:
     from typing_extensions import Unpack
 
-__all__ = ["Explanation", "Finding", "Lock", "Options", "Package", "Pick", "Session", "Verdict"]
+__all__ = ["Difference", "Explanation", "Finding", "Lock", "Options", "Package", "Pick", "Session", "Step", "Verdict"]
 
 AnyEnvironment = Union[Environment, Mapping[str, Any], bytes]
 _NOTHING = b'{"environment": {}, "tags": []}'
@@ -89,8 +91,34 @@ class Finding(NamedTuple):
     detail: Optional[str]
 
 
+class Difference(NamedTuple):
+    """What a project asks for, and a lock or its plan hasn't (docs/FORMATS.md, `check`).
+
+    `difference` is `missing`, `version`, `python`, `extra`, `group` or `unknown`; `where` a key of the `pyproject.toml`.
+    """
+
+    difference: str
+    where: Optional[str]
+    name: Optional[str]
+    detail: Optional[str]
+
+
+class Step(NamedTuple):
+    """What is to be done with a project in an environment (docs/FORMATS.md, `status`).
+
+    `step` is `install`, `replace`, `keep` or `remove`; `version` the one that is installed, that stays, or that goes;
+    `from_version` the one that `replace` takes away; `id` the number of the entry that is installed.
+    """
+
+    step: str
+    name: str
+    version: Optional[str]
+    from_version: Optional[str]
+    id: Optional[int]
+
+
 class Options(TypedDict, total=False):
-    """The keyword arguments of `Lock.plan` and `Lock.explain`: what is asked for beside the lock's defaults.
+    """The keyword arguments of `Lock.plan`, `explain`, `check` and `status`: what is asked for beside the lock's defaults.
 
     `strict` takes the lock only where `audit` finds nothing that installers read differently, and raises StrictRefusal
     otherwise. The others are extras; dependency groups, and these without some, all of them, or without the lock's
@@ -158,14 +186,10 @@ def records(kept: _native.KeptSession) -> List[Tuple[Any, ...]]:
     return found
 
 
-# the words that ask the program for the findings of every environment too
-_AUDIT = (b"pylock", b"audit", b"-", b"--environments", b"--json")
-
-
-def _findings(text: str) -> List[Finding]:
+def _findings(document: Dict[str, Any]) -> List[Finding]:
     return [
         Finding(finding["id"], finding.get("name"), finding["finding"], finding.get("detail"))
-        for finding in json.loads(text)["findings"]
+        for finding in document["findings"]
     ]
 
 
@@ -173,7 +197,7 @@ def _started_strictly(lock: bytes, environment: bytes) -> _native.KeptSession:
     """The session on a lock that is taken strictly; the findings for which it isn't are raised."""
     kept = _native.session_start_strict(lock, environment, True)
     if isinstance(kept, str):
-        raise StrictRefusal(_findings(kept))
+        raise StrictRefusal(_findings(json.loads(kept)))
     return kept
 
 
@@ -348,6 +372,70 @@ class Session(_OfThread):
         self.close()
 
 
+# ---- options as words of the program ----
+
+_POLICIES = {"wheel": "--only-binary=", "source": "--no-binary="}
+_LISTS = ("extras", "groups", "without_groups", "policies")
+
+
+def _checked(options: Options) -> Options:
+    """The options with known names, and with lists of what can be read once."""
+    checked: Dict[str, Any] = {}
+    for option, value in options.items():
+        if option not in Options.__annotations__:
+            raise TypeError("there is no option %r" % option)
+        if isinstance(value, str):
+            raise TypeError("%s: expected a list, not a str" % option)
+        checked[option] = [*cast(Any, value)] if option in _LISTS else value
+    return cast(Options, checked)
+
+
+def _have_words(options: Options) -> bool:
+    """Whether the program has words for all of the options. A policy that is taken back has none, nor has a wrong one, or a
+    variable with a `=` in it."""
+    policies = [policy for _, policy in options.get("policies", ())]
+    return all([policy in _POLICIES for policy in policies]) and not any(["=" in name for name in options.get("variables") or ()])
+
+
+def _option_words(options: Options, policies: Iterable[Tuple[str, str]]) -> List[str]:
+    """The words of the options, with these policies, in the order of the command line's table."""
+    words: List[str] = []
+    if options.get("all_extras"):
+        words.append("--all-extras")
+    words += ["--extra=" + name for name in options.get("extras", ())]
+    if not options.get("default_groups", True):
+        words.append("--no-default-groups")
+    if options.get("all_groups"):
+        words.append("--all-groups")
+    words += ["--group=" + name for name in options.get("groups", ())]
+    words += ["--no-group=" + name for name in options.get("without_groups", ())]
+    words += [_POLICIES[policy] + name for name, policy in policies]
+    words += ["--set=" + name + "=" + value for name, value in (options.get("variables") or {}).items()]
+    if options.get("strict"):
+        words.append("--strict")
+    return words
+
+
+def _several(option: str, values: Iterable[Any]) -> List[Any]:
+    if isinstance(values, (str, bytes, bytearray, memoryview)):
+        raise TypeError("%s: expected a list, not a %s" % (option, type(values).__name__))
+    return list(values)
+
+
+def _installed_bytes(installed: Any) -> bytes:
+    """What `pip list --format json` or `pip inspect` printed: bytes, a text, or what JSON made of it."""
+    if isinstance(installed, (bytes, bytearray, memoryview)):
+        return bytes(installed)
+    if isinstance(installed, str):
+        return installed.encode("utf-8", "surrogatepass")
+    if isinstance(installed, (list, tuple, dict)):
+        return json.dumps(installed).encode()
+    raise TypeError("expected bytes, a str, a list or a dict, not %s" % type(installed).__name__)
+
+
+# ---- locks ----
+
+
 def _number(number: int) -> int:
     if not isinstance(number, int) or isinstance(number, bool):
         raise TypeError("expected the number of an entry, not %s" % type(number).__name__)
@@ -403,13 +491,14 @@ class Lock(_OfThread):
     A lock stays on the thread that made it, and can't be copied or pickled.
     """
 
-    __slots__ = ("_content", "_session", "_taken_strictly", "_head", "_packages", "__weakref__")
+    __slots__ = ("_content", "_session", "_taken_strictly", "_head", "_created_by", "_packages", "__weakref__")
 
     def __init__(self, content: bytes) -> None:
         self._keep_thread()
         self._content = given_bytes(content)
         # read when it is asked for
         self._head: Optional[Head] = None
+        self._created_by: Optional[str] = None
         # the session on the environment that was asked for last, as it was started: at first without variables and tags,
         # so that the lock is judged here
         self._session: Optional[Tuple[bytes, Session]] = (_NOTHING, Session(self._content, _NOTHING))
@@ -444,6 +533,15 @@ class Lock(_OfThread):
         if self._head is None:
             self._head = lock_head(self._content)
         return self._head
+
+    @property
+    def created_by(self) -> str:
+        """What made the lock, as it says itself, but with `***` in place of secrets in a URL (docs/FORMATS.md, `show`)."""
+        self._check_thread()
+        made_by = self._created_by
+        if made_by is None:
+            made_by = self._created_by = str(self._answered(["show", "-"], {})["created-by"])
+        return made_by
 
     @property
     def extras(self) -> Tuple[str, ...]:
@@ -489,11 +587,7 @@ class Lock(_OfThread):
 
     def _edits(self, options: Options) -> List[Tuple[str, ...]]:
         """The edits that the options mean, in the order of the command line's table."""
-        for option, value in options.items():
-            if option not in Options.__annotations__:
-                raise TypeError("there is no option %r" % option)
-            if isinstance(value, str):
-                raise TypeError("%s: expected a list, not a str" % option)
+        options = _checked(options)
         edits: List[Tuple[str, ...]] = []
         if options.get("all_extras"):
             edits += [("add_extra", name) for name in self.extras]
@@ -522,6 +616,46 @@ class Lock(_OfThread):
             session._make(edits)
         return session
 
+    def _answered(self, words: Sequence[str], files: Mapping[str, bytes]) -> Dict[str, Any]:
+        """The document that the program prints of the lock for these words; a refusal is raised."""
+        document = _program.answered(self._content, words, files)
+        if "refused" in document:
+            raise _program.refusal(document)
+        return document
+
+    def _last_policies(self, policies: Iterable[Tuple[str, str]]) -> List[Tuple[str, str]]:
+        """The policy that each name has at the end, without those that were taken back."""
+        last: Dict[str, str] = {}
+        for name, policy in policies:
+            names = [package.name for package in self.packages] if name == ":all:" else [canonicalize_name(name)]
+            last.update(dict.fromkeys(names, policy))
+        return [(name, policy) for name, policy in last.items() if policy != "any"]
+
+    def _answered_for_plan(
+        self, words: Sequence[str], files: Mapping[str, bytes], environment: AnyEnvironment, options: Options
+    ) -> Dict[str, Any]:
+        """The document for a plan with the options; what `plan` raises is raised. `environment` is a file beside the others."""
+        options = _checked(options)
+        policies = list(options.get("policies", ()))
+        if not _have_words(options):
+            # a session judges them
+            self._asked(environment, options)
+            policies = self._last_policies(policies)
+        document = _program.answered(
+            self._content, [*words, *_option_words(options, policies)], {**files, "environment": environment_bytes(environment)}
+        )
+        if "refused" in document:
+            if not _program.is_of_a_file(document):
+                # a session tells of an environment or an option, as it does for `plan`
+                self._asked(environment, options)
+            raise _program.refusal(document)
+        if "findings" in document:
+            raise StrictRefusal(_findings(document))
+        if "fault" in document:
+            fault = document["fault"]
+            raise PlanFault(fault["id"], fault.get("name"), fault["code"], fault.get("detail"))
+        return document
+
     def plan(self, environment: AnyEnvironment, **options: Unpack[Options]) -> List[Pick]:
         """What is to be installed in the environment: an Environment, a mapping of its form, or the bytes of its JSON.
         The keyword arguments are those of `Options`.
@@ -540,15 +674,82 @@ class Lock(_OfThread):
         self._check_thread()
         return [_pick(source) for source in json.loads(_native.files(self._content, True)[0])["files"]]
 
-    def audit(self, *, environments: bool = False) -> List[Finding]:
+    def audit(
+        self, *, environments: bool = False, advisories: Iterable[Any] = (), hosts: Iterable[str] = (), ignore: Iterable[str] = ()
+    ) -> List[Finding]:
         """What a careful reader of the lock would want to be told, though it is valid.
 
-        With `environments`, every environment that the lock is for is looked at too.
+        With `environments`, every environment that the lock is for is looked at too. `advisories` are files in OSV's format,
+        each by its path or its bytes: what they affect is told. With `hosts`, each source that names another host is told.
+        `ignore` leaves findings out: `no-hash` of every package, `no-hash:NAME` of one.
+
+        Raises InvalidAdvisories where a file of advisories is refused, and InvalidEdit where a word to ignore is.
         """
         self._check_thread()
-        if not environments:
-            return _findings(_native.audit(self._content, True)[0])
-        status, text, told = _native.run_program(_AUDIT, (), self._content)
-        if status > 1:
-            raise MemoryError(told.decode().rstrip())
-        return _findings(text.decode())
+        words = ["--environments"] if environments else []
+        files = {"advisories-%d" % number: read_source(file) for number, file in enumerate(_several("advisories", advisories), 1)}
+        words += ["--advisories=" + name for name in files]
+        words += ["--host=" + host for host in _several("hosts", hosts)]
+        words += ["--ignore=" + finding for finding in _several("ignore", ignore)]
+        if not words:
+            return _findings(json.loads(_native.audit(self._content, True)[0]))
+        return _findings(self._answered(["audit", "-", *words], files))
+
+    def check(self, project: Any, environment: AnyEnvironment, **options: Unpack[Options]) -> List[Difference]:
+        """Where the lock isn't that of a project any more, whose `pyproject.toml` is given by its path or its bytes; empty where
+        it is. The environment and the keyword arguments are those of `plan`: its plan is looked at.
+
+        >>> lock = Lock.read(b'''
+        ... lock-version = "1.0"
+        ... created-by = "me"
+        ... [[packages]]
+        ... name = "a"
+        ... version = "1.0"
+        ... directory = { path = "./a" }
+        ... ''')
+        >>> for difference in lock.check(b'project.dependencies = ["a>=2", "b"]', Environment({}, [])):
+        ...     print(*difference)
+        version project.dependencies 1 a 1.0
+        missing project.dependencies 2 b None
+
+        Raises what `plan` raises, and InvalidProject where the project is refused.
+        """
+        self._check_thread()
+        document = self._answered_for_plan(
+            ["check", "-", "project", "environment"], {"project": read_source(project)}, environment, options
+        )
+        return [
+            Difference(one["difference"], one.get("where"), one.get("name"), one.get("detail")) for one in document["differences"]
+        ]
+
+    def status(
+        self, environment: AnyEnvironment, installed: Any, *, exact: bool = False, **options: Unpack[Options]
+    ) -> List[Step]:
+        """What is to be done so that an environment has the plan: a step for each pick, then one for each other project that is
+        installed. `installed` is what `pip list --format json` or `pip inspect` prints there: its bytes, its text, or the list
+        or dict that `json.loads` makes of it. Nothing is to be done where each step is `keep`.
+
+        >>> lock = Lock.read(b'''
+        ... lock-version = "1.0"
+        ... created-by = "me"
+        ... [[packages]]
+        ... name = "a"
+        ... version = "1.0"
+        ... directory = { path = "./a" }
+        ... ''')
+        >>> there = [{"name": "A", "version": "0.9"}, {"name": "b", "version": "2"}, {"name": "pip", "version": "25.0"}]
+        >>> for step in lock.status(Environment({}, []), there):
+        ...     print(*step)
+        replace a 1.0 0.9 1
+        remove b 2 None None
+        keep pip 25.0 None None
+
+        `pip`, `setuptools` and `wheel` stay, unless it is to be `exact`. The environment and the other keyword arguments are
+        those of `plan`. Raises what `plan` raises, and InvalidInstalled where the list is refused.
+        """
+        self._check_thread()
+        words = ["status", "-", "environment", "--installed=installed", *(["--exact"] if exact else [])]
+        document = self._answered_for_plan(words, {"installed": _installed_bytes(installed)}, environment, options)
+        return [
+            Step(one["step"], one["name"], one.get("version"), one.get("from"), one.get("id")) for one in document["steps"]
+        ]

@@ -317,7 +317,7 @@ class Threads(unittest.TestCase):
         lock, session = pylock.Lock.read(LOCK), pylock.Session(LOCK, linux())
         for call in (
             lambda: lock.plan(linux()), lambda: lock.explain(linux()), lock.files, lock.audit, lambda: lock.packages, lambda: lock.extras,
-            session.answer, session.explain, lambda: session.judged, lambda: session.set("os_name", "x"), session.close,
+            lambda: lock.check(b"", linux()), lambda: lock.status(linux(), []), lambda: lock.created_by, session.answer, session.explain, lambda: session.judged, lambda: session.set("os_name", "x"), session.close,
         ):
             raised = self.elsewhere(call)
             self.assertEqual([type(error) for error in raised], [pylock.WrongThread])
