@@ -26,6 +26,16 @@ FORMS = ["requirements", "requirements-local", "sha256sum", "aria2", "urls", "cy
 EDITS = ["show", "set python_version 3.12", "set os_name nt", "unset platform_release", "extra+ science", "extra- science", "extra+ nope", "group+ test",
          "group- docs", "tags py3-none-any", "tags cp312-cp312-manylinux_2_17_x86_64 py3-none-any", "tags x", "del 1", "del 99", "policy numpy wheel",
          "policy cffi source", "policy x y", "fly", "", "put 1 {name = \"a\"}", "add {name = \"zz\", directory = {path = \"d\"}}", "add {", "\r", "set"]
+FINDINGS = ["vulnerable", "no-hash", "clash", "other-host", "name-form", "never", "vulnerable:numpy", "other-host:Requests", "no-hash:", "nope", "", "clash:-a", "\u202e"]
+ADVISORY = b'{"id":"G-%d","aliases":["CVE-%d"],"affected":[{"package":{"ecosystem":"PyPI","name":"%s"},"ranges":[{"type":"ECOSYSTEM","events":%s}]}]}'
+EVENTS = (b'[{"introduced":"0"},{"fixed":"99"}]', b'[{"introduced":"1.0"},{"last_affected":"2.32.3"}]', b'[{"introduced":"0"}]')
+LINES = [ADVISORY % (at, at, name, EVENTS[at % 3]) for at, name in enumerate((b"numpy", b"Requests", b"a", b"cffi", b"zipp", b"b"))]
+ADVISORIES = {"lines.json": b"\n".join(LINES), "array.json": b"[" + b",".join(LINES[:3]) + b"]", "one.json": LINES[1], "none.json": b"[]"}
+SETTINGS = {
+    "settings.toml": b'[tool.pylock.audit]\nfail-on = "vulnerable"\nignore = ["vulnerable:numpy", "no-hash"]\nhost = ["files.pythonhosted.org"]\n',
+    "every.toml": b"[project]\nname = 'p'\n[tool.pylock.audit]\nenvironments = true\n",
+    "unknown.toml": b"[tool.pylock.audit]\nignored = []\n",
+}
 
 
 def pool():
@@ -100,6 +110,18 @@ class Maker:
         self.random.shuffle(words)
         return words
 
+    def audited(self, files):
+        """Words of an audit, of files of advisories and of a project file too."""
+        words = self.some(["--environments", "--host=a.example", "--host=files.pythonhosted.org", "--format=sarif", "--format=urls"], 0, 2)
+        words += [f"--ignore={finding}" for finding in self.some(FINDINGS, 0, 2)] if self.random.random() < 0.4 else []
+        words += [f"--fail-on={','.join(self.some(FINDINGS, 1, 2))}"] if self.random.random() < 0.3 else []
+        for option, named in (("advisories", ADVISORIES), ("config", SETTINGS)):
+            for name in self.some(sorted(named), 0, 2 if option == "advisories" else 1):
+                files[name] = named[name] if self.random.random() < 0.9 else self.broken(named[name])
+                words.append(f"--{option}={name}")
+        self.random.shuffle(words)
+        return words
+
     def flag(self):
         return ["--json"] if self.random.random() < 0.4 else []
 
@@ -113,9 +135,11 @@ class Maker:
             return [kind, lock(), *self.targets(), *self.options(), *self.some(["--no-build"], 0, 1)]
         if kind == "select":
             return [kind, lock(), *self.machine(files), *self.flag()]
-        if kind == "show" or kind == "audit" and self.random.random() < 0.3:
-            return [kind, lock(), *self.flag(), *(["--environments"] if kind == "audit" else [])]
-        if kind in ("files", "audit"):
+        if kind == "show":
+            return [kind, lock(), *self.flag()]
+        if kind == "audit":
+            return [kind, lock(), *self.audited(files), *self.flag()]
+        if kind == "files":
             return [kind, lock(), *self.flag(), *(["--format", self.random.choice(FORMS)] if self.random.random() < 0.2 else [])]
         if kind == "diff":
             return [kind, lock(), lock(), *(self.machine(files, "in") if self.random.random() < 0.5 else []), *self.flag()]
