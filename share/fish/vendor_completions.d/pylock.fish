@@ -52,7 +52,7 @@ function __pylock_words
         else if not set -q ended[1]; and test "$word" = --
             set ended 1
         else if not set -q ended[1]; and string match -qr -- '^-.' "$word"
-            if contains -- "$word" --python --platform --extra --group --no-group --only-binary --no-binary --set --format --created --base --installed --in
+            if contains -- "$word" --python --platform --extra --group --no-group --only-binary --no-binary --set --only --except --format --created --base --installed --advisories --host --fail-on --ignore --config --in
                 set is_value 1
             end
         else
@@ -113,6 +113,9 @@ complete -c pylock -n '__pylock_in plan explain matrix status check diff' -l no-
 complete -c pylock -n '__pylock_in plan explain matrix status check diff' -l only-binary -x -a '(echo :all:; __pylock_names packages)' -d 'Take wheels alone: --only-binary numpy, or :all:'
 complete -c pylock -n '__pylock_in plan explain matrix status check diff' -l no-binary -x -a '(echo :all:; __pylock_names packages)' -d 'Take no wheels: --no-binary numpy, or :all:'
 complete -c pylock -n '__pylock_in plan explain matrix status check diff' -l set -x -a '(__pylock_variables)' -d 'Give a marker variable a text: --set os_name=nt'
+complete -c pylock -n '__pylock_in plan' -l only -x -a '(__pylock_names packages)' -d 'Print of the plan this package alone, or these'
+complete -c pylock -n '__pylock_in plan' -l except -x -a '(__pylock_names packages)' -d 'Leave this package out of the plan'
+complete -c pylock -n '__pylock_in plan' -l no-project -d 'Leave out what is editable, and the lock\'s folder'
 complete -c pylock -n '__pylock_in plan explain select matrix status check' -l strict -d 'Refuse a lock with certain findings of audit'
 complete -c pylock -n '__pylock_in plan' -l format -x -a 'requirements requirements-local sha256sum aria2 urls cyclonedx spdx' -d 'Print a form that another tool takes'
 complete -c pylock -n '__pylock_in plan' -l created -x -a '' -d 'The time of an SPDX document: 2026-07-24T12:00:00Z'
@@ -128,6 +131,12 @@ complete -c pylock -n '__pylock_in matrix files' -l format -x -a 'sha256sum aria
 complete -c pylock -n '__pylock_in status' -l installed -x -k -a '(__pylock_files .json)' -d 'What pip inspect or pip list --format json prints'
 complete -c pylock -n '__pylock_in status' -l exact -d 'Remove pip, setuptools and wheel too'
 complete -c pylock -n '__pylock_in audit' -l environments -d 'Look at every environment that the lock is for too'
+complete -c pylock -n '__pylock_in audit' -l advisories -x -k -a '(__pylock_files .json)' -d 'Tell what these advisories affect, in OSV\'s format'
+complete -c pylock -n '__pylock_in audit' -l host -x -a files.pythonhosted.org -d 'Tell each source that names another host than these'
+complete -c pylock -n '__pylock_in audit' -l fail-on -x -a 'lock-version unknown-key wrong-type no-packages name-form version marker-extra readings-differ undeclared-name no-source several-sources no-hash weak-hash odd-hash bad-hash no-wheel-name no-sdist-name other-name other-version same-file-name unsafe-file-name outside-path unsafe-subdirectory not-https credentials secret-in-url moving-commit control-character' -d 'End with 1 for these findings alone'
+complete -c pylock -n '__pylock_in audit' -l ignore -x -a 'lock-version unknown-key wrong-type no-packages name-form version marker-extra readings-differ undeclared-name no-source several-sources no-hash weak-hash odd-hash bad-hash no-wheel-name no-sdist-name other-name other-version same-file-name unsafe-file-name outside-path unsafe-subdirectory not-https credentials secret-in-url moving-commit control-character' -d 'Leave out a finding, of all packages or of one'
+complete -c pylock -n '__pylock_in audit' -l config -x -k -a '(__pylock_files .toml)' -d 'Read [tool.pylock.audit] of a pyproject.toml too'
+complete -c pylock -n '__pylock_in audit' -l format -x -a sarif -d 'Print a form that another tool takes'
 complete -c pylock -n '__pylock_in diff' -l in -x -k -a '(__pylock_files .json)' -d 'Compare the plans for this environment'
 complete -c pylock -n __pylock_in_none -a plan -d 'Print what a lock installs in an environment'
 complete -c pylock -n '__pylock_at 0 help' -a plan -d 'Print what a lock installs in an environment'
