@@ -38,7 +38,7 @@
  * slots. Calls with different slots may run at the same time. Of one slot one
  * call runs at a time, which a lock sees to, or the start or the end of a thread.
  * A slot of texts, sets, markers or environments may go from thread to thread; a
- * slot of sessions stays on the thread that filled it.
+ * slot of sessions or runs stays on the thread that filled it.
  *
  * MEMORY is asked of malloc and realloc, and given back by free. PYLOCK_MEMORY
  * says that a request was refused; the call has then changed nothing. No call is
@@ -61,6 +61,8 @@ enum pylock_code {
     PYLOCK_NOT_UTF8 = 2,  /* a text isn't UTF-8 */
     PYLOCK_EMPTY = 3,     /* no object in a slot */
     PYLOCK_ROOM = 4,      /* the result is longer than `room` */
+    PYLOCK_PARTS = 5,     /* the lengths of joined texts don't add up to their bytes */
+    PYLOCK_INPUT = 6,     /* more than 1,000,000 edit lines, or than 268,435,456 bytes */
 
     /* a version (PEP 440) */
     PYLOCK_VERSION_SYNTAX = 10, /* the text is no version */
@@ -130,12 +132,21 @@ enum pylock_code {
     PYLOCK_EDIT_NAME = 91      /* the name is none */
 };
 
+/* What a call answers that asks something of every version, or of every environment that an
+ * interpreter of Python may have. */
+enum pylock_answer {
+    PYLOCK_NO = 0,       /* it isn't so, as the slot of the witness shows */
+    PYLOCK_YES = 1,      /* it is so of all of them */
+    PYLOCK_UNDECIDED = 2 /* the call can't tell */
+};
+
 /* The slots. `full` is false and `kept` NULL where the slot is empty. */
 typedef struct { void *kept; bool full; } pylock_text;        /* bytes */
 typedef struct { void *kept; bool full; } pylock_set;         /* a specifier set */
 typedef struct { void *kept; bool full; } pylock_marker;      /* a marker */
 typedef struct { void *kept; bool full; } pylock_environment; /* what markers are judged in */
 typedef struct { void *kept; bool full; } pylock_session;     /* a lock in an environment */
+typedef struct { void *kept; bool full; } pylock_run;         /* a session that edit lines change */
 
 /* The version of this interface: 1. Calls and codes may be added under that number. */
 uint32_t pylock_abi(void);
@@ -296,6 +307,20 @@ int32_t pylock_set_text(pylock_set *set, uint8_t *out, size_t room, size_t *need
 /* As pylock_admits. PYLOCK_EMPTY, PYLOCK_NOT_UTF8, PYLOCK_VERSION_*, PYLOCK_MEMORY. */
 int32_t pylock_set_admits(pylock_set *set, const uint8_t *version, size_t length, bool *admits);
 
+/* Whether `second` admits each version that `first` does, of any phase: pre-releases count as
+ * others. `*answer` is one of enum pylock_answer; of PYLOCK_NO `witness` is then the normal form
+ * of a version that `first` alone admits, otherwise it stays. The slots differ: a set is asked
+ * beside itself by a second slot. PYLOCK_EMPTY, PYLOCK_MEMORY. */
+int32_t pylock_set_is_subset(pylock_set *first, pylock_set *second,
+                             int32_t *answer, pylock_text *witness);
+
+/* The same: whether no version is admitted by both sets. The witness is one that is. */
+int32_t pylock_set_is_disjoint(pylock_set *first, pylock_set *second,
+                               int32_t *answer, pylock_text *witness);
+
+/* The same of one set: whether it admits no version. The witness is one that it admits. */
+int32_t pylock_set_is_unsatisfiable(pylock_set *set, int32_t *answer, pylock_text *witness);
+
 void pylock_set_free(pylock_set *set);
 
 /* ---- markers, and the environments that they are judged in (PEP 508) ---- */
@@ -324,6 +349,26 @@ int32_t pylock_marker_evaluate_with_extra(pylock_marker *marker,
                                           pylock_environment *environment,
                                           const uint8_t *extra, size_t extra_length,
                                           bool *value);
+
+/* Whether in no coherent environment both markers are true. An environment is coherent if an
+ * interpreter of Python may have it: there is a version that `python_full_version` spells, and
+ * `python_version` its first two numbers, and a platform that `os_name`, `sys_platform` and
+ * `platform_system` are of; any variable may be unset. `*answer` is one of enum pylock_answer;
+ * of PYLOCK_NO `witness` is then such an environment, otherwise it stays. The slots differ, as
+ * above. PYLOCK_EMPTY, PYLOCK_MEMORY. */
+int32_t pylock_marker_is_disjoint(pylock_marker *first, pylock_marker *second,
+                                  int32_t *answer, pylock_environment *witness);
+
+/* The same: whether in no coherent environment `first` is true and `second` false. A marker that
+ * has no value in an environment, as one that reads a variable that isn't set, is neither. */
+int32_t pylock_marker_implies(pylock_marker *first, pylock_marker *second,
+                              int32_t *answer, pylock_environment *witness);
+
+/* The same of one marker: whether in no coherent environment it is true, or false. */
+int32_t pylock_marker_is_never_true(pylock_marker *marker,
+                                    int32_t *answer, pylock_environment *witness);
+int32_t pylock_marker_is_never_false(pylock_marker *marker,
+                                     int32_t *answer, pylock_environment *witness);
 
 void pylock_marker_free(pylock_marker *marker);
 
@@ -364,6 +409,12 @@ int32_t pylock_environment_add_group(pylock_environment *environment,
                                      const uint8_t *name, size_t length);
 int32_t pylock_environment_drop_group(pylock_environment *environment,
                                       const uint8_t *name, size_t length);
+
+/* A record of an environment, in pairs of fields: the name of each variable that is set, and its
+ * text; `extras` and the name of each extra that is asked for; `dependency_groups` and the name
+ * of each group. Names are in normal form and in the order of their bytes. PYLOCK_EMPTY,
+ * PYLOCK_MEMORY. */
+int32_t pylock_environment_record(pylock_environment *environment, pylock_text *record);
 
 void pylock_environment_free(pylock_environment *environment);
 
@@ -525,6 +576,56 @@ int32_t pylock_session_picks(pylock_session *session, pylock_text *out, bool *is
 int32_t pylock_session_judged(pylock_session *session, pylock_text *numbers);
 
 void pylock_session_free(pylock_session *session);
+
+/* ---- the whole program ----
+ *
+ * JOINED TEXTS are their bytes, one text behind another, and an array of their lengths.
+ * PYLOCK_PARTS says that the lengths don't add up. */
+
+/* What the program pylock does with these words, of which the first is its name: with files
+ * in memory, joined as a path and its bytes by turns, and a standard input, which is no
+ * terminal. Of several files of one path the first is read, and any other path is that of a
+ * missing file. `output` gets what it prints to standard output, `diagnostics` what it
+ * prints to standard error, `status` its status. `select` takes the whole input at once.
+ * PYLOCK_PARTS, PYLOCK_MEMORY. */
+int32_t pylock_main(const size_t *word_lengths, size_t word_count,
+                    const uint8_t *words, size_t words_length,
+                    const size_t *file_lengths, size_t file_count,
+                    const uint8_t *files, size_t files_length,
+                    const uint8_t *input, size_t input_length,
+                    pylock_text *output, pylock_text *diagnostics, int32_t *status);
+
+/* What these words ask `select` for, as a record: the path of the lock; that of the
+ * environment, or else, behind it, the Python and the platform of a target; then strict and
+ * json, where that is asked for. Of other words the empty text. PYLOCK_PARTS,
+ * PYLOCK_MEMORY. */
+int32_t pylock_select_asked(const size_t *word_lengths, size_t word_count,
+                            const uint8_t *words, size_t words_length, pylock_text *asked);
+
+/* ---- a run: what `pylock select` prints, of an input that comes in pieces ----
+ *
+ * What the calls give one after another is what the program prints. `json` has to be the
+ * same in all calls of a run. */
+
+/* The run on a lock and an environment file; `output` gets its first answer, or the line of
+ * a refusal, as `words` of pylock_session_start, and then the run stays.
+ * PYLOCK_LOCK_REFUSED, PYLOCK_ENVIRONMENT_REFUSED, PYLOCK_MEMORY. */
+int32_t pylock_run_start(pylock_run *run,
+                         const uint8_t *lock, size_t lock_length,
+                         const uint8_t *environment, size_t environment_length,
+                         bool json, pylock_text *output);
+
+/* The next bytes of the input: `output` gets what the lines print that end in them.
+ * PYLOCK_EMPTY; PYLOCK_INPUT, PYLOCK_MEMORY, after which the run may only be freed. */
+int32_t pylock_run_feed(pylock_run *run, bool json, const uint8_t *piece, size_t length,
+                        pylock_text *output);
+
+/* The end of the input: `output` gets what its last line prints, where that had no LF,
+ * `status` the status of the program. The run is freed, also where the call is refused.
+ * PYLOCK_EMPTY, PYLOCK_MEMORY. */
+int32_t pylock_run_end(pylock_run *run, bool json, pylock_text *output, int32_t *status);
+
+void pylock_run_free(pylock_run *run);
 
 #ifdef __cplusplus
 }
