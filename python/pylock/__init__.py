@@ -42,7 +42,7 @@ if TYPE_CHECKING:
         StrictRefusal,
         WrongThread,
     )
-    from ._lock import Difference, Explanation, Finding, Lock, Options, Package, Pick, Session, Step, Verdict
+    from ._lock import Difference, Explanation, File, Finding, Lock, Options, Package, Pick, Session, Step, Verdict
     from .markers import (
         InvalidMarker,
         Marker,
@@ -69,7 +69,7 @@ if TYPE_CHECKING:
     from .version import VERSION_PATTERN, InvalidVersion, Version, parse, parse_all, sorted_versions, version_key
 
 __all__ = [
-    "Answer", "BuildTag", "Difference", "Environment", "Explanation", "Finding", "InvalidAdvisories", "InvalidEdit",
+    "Answer", "BuildTag", "Difference", "Environment", "Explanation", "File", "Finding", "InvalidAdvisories", "InvalidEdit",
     "InvalidEnvironment", "InvalidInstalled", "InvalidLock", "InvalidMarker", "InvalidName", "InvalidProject",
     "InvalidRequirement", "InvalidSdistFilename", "InvalidSpecifier", "InvalidTag", "InvalidTarget", "InvalidVersion",
     "InvalidWheelFilename", "Lock", "Marker", "MarkerFault", "NormalizedName", "Options", "Outcome", "Package", "Pick",
@@ -111,7 +111,7 @@ _MODULES = {
         "InvalidTarget", "InvalidVersion", "InvalidWheelFilename", "MarkerFault", "PlanFault", "Refusal", "StrictRefusal",
         "UndefinedComparison", "UndefinedEnvironmentName", "UnsortedTagsError", "WrongThread",
     ),
-    "_lock": ("Difference", "Explanation", "Finding", "Lock", "Options", "Package", "Pick", "Session", "Step", "Verdict"),
+    "_lock": ("Difference", "Explanation", "File", "Finding", "Lock", "Options", "Package", "Pick", "Session", "Step", "Verdict"),
     "markers": ("Marker", "default_environment"),
     "requirements": ("Requirement",),
     "specifiers": ("Specifier", "SpecifierSet"),
@@ -145,7 +145,7 @@ def __dir__() -> "list[str]":
     return sorted({*globals(), *__all__})
 
 
-__version__ = "1.13.0"
+__version__ = "1.14.0"
 
 # what `packaging` tells of itself, as far as this module has it (docs/PRIVATE.md)
 __title__ = "pylock"

@@ -27,7 +27,7 @@ _NOTHING = b'{"environment": {}, "tags": []}'
 
 
 class Pick(NamedTuple):
-    """A source that a lock names: what an entry is installed from, or one of `Lock.files`.
+    """A source that a lock names: what an entry is installed from, or a `File` of `Lock.files`.
 
     `kind` is `vcs`, `directory`, `editable`, `archive`, `wheel` or `sdist`; `place` is the path, else the URL;
     `revision` of a VCS its type and its commit. What the lock doesn't have is None, and `hashes` is then empty.
@@ -44,6 +44,16 @@ class Pick(NamedTuple):
     hashes: Dict[str, str]
     revision: Optional[Tuple[str, str]]
     subdirectory: Optional[str]
+
+
+class File(Pick):
+    """A source of `Lock.files`: a `Pick`, with what the lock says of its file besides.
+
+    `size` is in bytes and `upload_time` a text (RFC 3339), where the lock has them; they are no part of the tuple.
+    """
+
+    size: Optional[int] = None
+    upload_time: Optional[str] = None
 
 
 class Head(NamedTuple):
@@ -82,13 +92,22 @@ class Explanation(NamedTuple):
     entries: List[Verdict]
 
 
-class Finding(NamedTuple):
-    """What a careful reader of the lock would want to be told (docs/FORMATS.md, `audit`)."""
-
+class _Finding(NamedTuple):
     id: int
     name: Optional[str]
     finding: str
     detail: Optional[str]
+
+
+class Finding(_Finding):
+    """What a careful reader of the lock would want to be told (docs/FORMATS.md, `audit`).
+
+    `line` and `column` say where it stands in the text of the lock, from 1; they are of `Lock.audit` alone, and no part of
+    the tuple.
+    """
+
+    line: Optional[int] = None
+    column: Optional[int] = None
 
 
 class Difference(NamedTuple):
@@ -166,6 +185,12 @@ def _pick(source: Dict[str, Any]) -> Pick:
     )
 
 
+def _file(source: Dict[str, Any]) -> File:
+    file = File(*_pick(source))
+    file.size, file.upload_time = source.get("size"), source.get("upload-time")
+    return file
+
+
 def _pick_of(
     id: str, kind: str, wheel: Optional[str], name: str, version: Optional[str], file: Optional[str], url: Optional[str],
     path: Optional[str], revision: Optional[str], commit: Optional[str], subdirectory: Optional[str], *hashes: str,
@@ -186,11 +211,14 @@ def records(kept: _native.KeptSession) -> List[Tuple[Any, ...]]:
     return found
 
 
+def _finding(found: Dict[str, Any]) -> Finding:
+    finding = Finding(found["id"], found.get("name"), found["finding"], found.get("detail"))
+    finding.line, finding.column = found.get("line"), found.get("column")
+    return finding
+
+
 def _findings(document: Dict[str, Any]) -> List[Finding]:
-    return [
-        Finding(finding["id"], finding.get("name"), finding["finding"], finding.get("detail"))
-        for finding in document["findings"]
-    ]
+    return [_finding(found) for found in document["findings"]]
 
 
 def _started_strictly(lock: bytes, environment: bytes) -> _native.KeptSession:
@@ -669,10 +697,10 @@ class Lock(_OfThread):
         """What becomes of the head and of each entry, with the options of `plan`."""
         return self._asked(environment, options).explain()
 
-    def files(self) -> List[Pick]:
+    def files(self) -> List[File]:
         """Every source that the lock names, whatever machine it is for."""
         self._check_thread()
-        return [_pick(source) for source in json.loads(_native.files(self._content, True)[0])["files"]]
+        return [_file(source) for source in json.loads(_native.files(self._content, True)[0])["files"]]
 
     def audit(
         self, *, environments: bool = False, advisories: Iterable[Any] = (), hosts: Iterable[str] = (), ignore: Iterable[str] = ()
@@ -691,8 +719,6 @@ class Lock(_OfThread):
         words += ["--advisories=" + name for name in files]
         words += ["--host=" + host for host in _several("hosts", hosts)]
         words += ["--ignore=" + finding for finding in _several("ignore", ignore)]
-        if not words:
-            return _findings(json.loads(_native.audit(self._content, True)[0]))
         return _findings(self._answered(["audit", "-", *words], files))
 
     def check(self, project: Any, environment: AnyEnvironment, **options: Unpack[Options]) -> List[Difference]:

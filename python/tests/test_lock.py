@@ -54,6 +54,24 @@ class Locks(unittest.TestCase):
         self.assertEqual(lock.plan(linux([])), [sdist, vcs])
         self.assertEqual([pick.kind for pick in lock.files()], ["wheel", "sdist", "editable", "vcs", "archive"])
 
+    def test_files(self):
+        lock = pylock.Lock.read(b"""lock-version = "1.0"
+created-by = "t"
+[[packages]]
+name = "a"
+version = "1"
+sdist = {path = "a-1.tar.gz", size = 12, upload-time = 2024-02-29T01:02:03Z, hashes = {}}
+wheels = [{path = "a-1-py3-none-any.whl", size = -1, hashes = {}}]
+""")
+        wheel, sdist = lock.files()
+        self.assertEqual(sdist, pylock.Pick(1, "a", "1", "sdist", "a-1.tar.gz", "a-1.tar.gz", None, "a-1.tar.gz", {}, None, None))
+        self.assertEqual((sdist.size, sdist.upload_time), (12, "2024-02-29T01:02:03Z"))
+        self.assertEqual((wheel.size, wheel.upload_time), (None, None))
+        self.assertEqual([(one.finding, one.line, one.column) for one in lock.audit() if one.finding != "wrong-type"],
+                         [("no-hash", 3, 1), ("no-hash", 3, 1)])
+        (wrong,) = (one for one in lock.audit() if one.finding == "wrong-type")
+        self.assertEqual((wrong.detail, wrong.line, wrong.column), ("wheels 1 size", 7, 43))
+
     def test_faults(self):
         lock = pylock.Lock.read(LOCK)
         with self.assertRaises(pylock.PlanFault) as caught:

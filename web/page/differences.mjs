@@ -52,7 +52,7 @@ export class Differences {
             this.grid.element.hidden = true;
             fill(this.answer, "The locks can't be compared.");
             if (!(error instanceof Refusal)) throw error;
-            fill(this.note, refusedNote(state.library, error, `${error.file === OTHER ? this.other.name : state.lock.name} is refused`));
+            fill(this.note, refusedNote(error, `${error.file === OTHER ? this.other.name : state.lock.name} is refused`));
         }
     }
 

@@ -112,7 +112,7 @@ class Page {
         find("#open").hidden = false;
         this.state.lock = null;
         if (!(error instanceof Refusal)) throw error;
-        fill(find("#refused"), refusedNote(this.state.library, error, `${brief(name, 100)} is refused`));
+        fill(find("#refused"), refusedNote(error, `${brief(name, 100)} is refused`));
     }
 
     audit(lock) {
@@ -130,7 +130,7 @@ class Page {
             this.environmentFile = { name, bytes, environment };
         } catch (error) {
             if (!(error instanceof Refusal)) throw error;
-            return this.panel.refuse(this.state.library, error);
+            return this.panel.refuse(error);
         }
         this.change((choices) => { choices.environment = { name }; });
     }
@@ -152,11 +152,11 @@ class Page {
         } catch (error) {
             if (!(error instanceof Refusal)) throw error;
             this.state.environment ??= this.environmentOf(firstChoices());
-            return this.panel.refuse(this.state.library, error);
+            return this.panel.refuse(error);
         }
         this.state.choices = choices;
         this.state.environmentFiles = choices.environment ? { "environment.json": this.environmentFile.bytes } : {};
-        this.panel.refuse(this.state.library, null);
+        this.panel.refuse(null);
         if (this.state.lock) dropUnknown(choices, this.state.lock.head, this.state.lock.idsByName);
         this.render();
     }

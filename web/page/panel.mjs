@@ -98,11 +98,11 @@ export class Panel {
     }
 
     // Shows why an environment isn't taken, or that one is.
-    refuse(library, refusal) {
+    refuse(refusal) {
         this.target.mark(refusal?.about ?? null);
         if (!refusal) fill(this.error);
         else if (refusal.about) fill(this.error, element("p", { class: "note fault", id: "target-error" }, brief(refusal.message, 600)));
-        else fill(this.error, refusedNote(library, refusal, "The environment is refused"));
+        else fill(this.error, refusedNote(refusal, "The environment is refused"));
     }
 }
 

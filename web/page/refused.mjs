@@ -8,11 +8,11 @@ const BEFORE = 60; // characters shown before the place in a long line
 const WIDTH = 160;
 
 // What is told of a refusal: its sentence, and where the text is wrong.
-export function refusedNote(library, refusal, title) {
+export function refusedNote(refusal, title) {
     const note = element("div", { class: "note fault", role: "alert" },
         element("h3", {}, title),
         sentence(refusal));
-    const place = refusal.bytes ? placeOf(library, refusal) : null;
+    const place = refusal.bytes ? placeOf(refusal) : null;
     if (place) note.append(excerpt(place));
     return note;
 }
@@ -30,7 +30,7 @@ function excerpt({ lines, line, column, about }) {
     for (let at = from; at <= to; at++) shown.push(excerptLine(lines[at - 1].replace(/\r$/, ""), at, at === line, column));
     const text = element("pre", { tabindex: "0", "aria-label": "The lines around the place" }, shown);
     afterDrawing(() => bringIntoView(text));
-    return element("figure", { class: "excerpt" }, element("figcaption", {}, about ?? `Line ${line}, column ${column}`), text);
+    return element("figure", { class: "excerpt" }, element("figcaption", {}, about), text);
 }
 
 function bringIntoView(text) {
@@ -41,7 +41,7 @@ function bringIntoView(text) {
 function excerptLine(text, at, isMarked, column) {
     const number = element("span", { class: "line-number", "aria-hidden": "true" }, at);
     const plain = [linesOf(text.slice(0, WIDTH)), text.length > WIDTH ? "…" : ""];
-    return element("span", { class: isMarked ? "line wrong" : "line" }, number, isMarked && column !== null ? markedLine(text, column) : plain);
+    return element("span", { class: isMarked ? "line wrong" : "line" }, number, isMarked ? markedLine(text, column) : plain);
 }
 
 // A line with the character at a column marked; columns count characters.

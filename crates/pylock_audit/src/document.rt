@@ -34,11 +34,18 @@ fn findings_list(alloc: Global, found: &[LockFinding]) -> Result<List, AllocErro
 fn finding_json(alloc: Global, found: &LockFinding) -> Result<Json, AllocError>
     ensures { IfOk result (λ json. data_of json ≡ object_of (finding_rows found.now)) }
 {
+    Ok(finding_object(alloc, found)?.into_json())
+}
+
+/// The object of a finding in such a document. It takes memory for the object.
+pub fn finding_object(alloc: Global, found: &LockFinding) -> Result<Object, AllocError>
+    ensures { IfOk result (λ object. members_view object ≡ members_of (finding_rows found.now)) }
+{
     let mut object = Object::new(alloc);
     object.put_number(alloc, "id", found.number() as u64)?;
     object.put_maybe(alloc, "name", found.name())?;
     object.put_text(alloc, "finding", found.finding().kind().word())?;
     let detail = whole_text(alloc, found.finding().detail())?;
     object.put_maybe(alloc, "detail", detail.as_deref())?;
-    Ok(object.into_json())
+    Ok(object)
 }

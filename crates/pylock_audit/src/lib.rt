@@ -35,7 +35,7 @@ mod tables;
 mod types;
 mod unsafe_text;
 
-pub use document::findings_document;
+pub use document::{finding_object, findings_document};
 pub use finding::{Finding, FindingKind, LockFinding};
 pub use findings::{audit, read_audited};
 pub use strict::{Findings, StrictError, read_strict};

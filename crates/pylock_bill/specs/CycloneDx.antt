@@ -1,15 +1,16 @@
 -- The bill of materials as CycloneDX 1.6 has it ("JSON Reference", `bom`).
-use Rattle.std.specs.Prelude.{ℕ, ◌++◌, codes, decimal, is_some, List, [], ◌∷◌, Some}
+use Rattle.std.specs.Prelude.{ℕ, ◌++◌, codes, decimal, is_some, List, [], ◌∷◌, Option, Some, None}
 use Rattle.std.specs.Prelude.{if◌then◌else◌, map, option_map}
 use Rattle.std.specs.Char.{to_ascii_lowercase}
 use Rattle.std.specs.List.{flat_map}
 use Rattle.std.specs.Option.{option_map_or}
 use Rattle.serde_json.specs.Data.{Data}
-use Rattle.pylock_json.specs.Json.{Row, list_of, maybe, numbered, object_of, there}
+use Rattle.pylock_json.specs.Json.{Row, list_of, maybe, numbered, object_of, texts_of, there}
 use Rattle.pylock_readers.specs.Entry.{EntryValue}
 use Rattle.pylock_core.specs.Session.Picks.{SourceValue, source_hashes, source_vcs}
 use Rattle.pylock_core.specs.Session.State.{State}
 use Rattle.pylock_core.specs.declared.answer.Pick.{Pick}
+use Rattle.pylock_metadata.specs.Named.{DependentValue}
 use Rattle.pylock_bill.specs.declared.hash.Algorithm.{Algorithm}
 use Rattle.pylock_bill.specs.Hash.{cyclonedx_word, hash_algorithm}
 use Rattle.pylock_bill.specs.Purl.{normal_version, purl}
@@ -46,11 +47,15 @@ references source =
 
 -- ---- components
 
+-- the name of the component of this number within the document
+abbrev pub component_reference : ℕ → List ℕ
+component_reference number = codes "pylock-" ++ decimal number
+
 -- the component of an entry, which has this number, and of the source that is picked of it
 unfoldable pub component_rows : ℕ → EntryValue → SourceValue → List Row
 component_rows number entry source =
     (codes "type", there (codes "library"))
-    ∷ (codes "bom-ref", there (codes "pylock-" ++ decimal number))
+    ∷ (codes "bom-ref", there (component_reference number))
     ∷ (codes "name", there entry.name)
     ∷ (codes "version", maybe (option_map normal_version entry.version))
     ∷ (codes "purl", there (purl entry.name entry.version))
@@ -60,6 +65,24 @@ component_rows number entry source =
 
 abbrev pub component_data : ℕ → EntryValue → SourceValue → Data
 component_data number entry source = object_of (component_rows number entry source)
+
+-- ---- dependencies
+
+-- a component, and those that it depends on
+abbrev pub dependency_rows : DependentValue → List Row
+dependency_rows dependent =
+    (codes "ref", there (component_reference dependent.number))
+    ∷ (codes "dependsOn", Some (texts_of (map component_reference dependent.depends_on)))
+    ∷ []
+
+abbrev pub dependency_data : DependentValue → Data
+dependency_data dependent = object_of (dependency_rows dependent)
+
+-- the list, which is absent where it would be empty
+abbrev pub dependencies_data : List DependentValue → Option Data
+dependencies_data [] = None
+dependencies_data (dependent ∷ more) =
+    Some (list_of (map dependency_data (dependent ∷ more)))
 
 -- ---- metadata
 
@@ -76,12 +99,13 @@ metadata_rows = (codes "tools", Some (object_of tools_rows)) ∷ []
 
 -- ---- the document
 
--- the components in the order of the plan
-abbrev pub cyclonedx_rows : State → List Pick → List Row
-cyclonedx_rows state picks =
+-- the components in the order of the plan, and what they depend on
+abbrev pub cyclonedx_rows : State → List Pick → List DependentValue → List Row
+cyclonedx_rows state picks dependents =
     (codes "bomFormat", there (codes "CycloneDX"))
     ∷ (codes "specVersion", there (codes "1.6"))
     ∷ (codes "version", numbered 1)
     ∷ (codes "metadata", Some (object_of metadata_rows))
     ∷ (codes "components", Some (list_of (flat_map (of_pick component_data state) picks)))
+    ∷ (codes "dependencies", dependencies_data dependents)
     ∷ []

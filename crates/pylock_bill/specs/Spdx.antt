@@ -10,6 +10,7 @@ use Rattle.pylock_readers.specs.Entry.{EntryValue}
 use Rattle.pylock_core.specs.Session.Picks.{SourceValue, source_hashes, source_vcs}
 use Rattle.pylock_core.specs.Session.State.{State}
 use Rattle.pylock_core.specs.declared.answer.Pick.{Pick}
+use Rattle.pylock_metadata.specs.Named.{DependentValue}
 use Rattle.pylock_bill.specs.declared.hash.Algorithm.{Algorithm}
 use Rattle.pylock_bill.specs.Hash.{hash_algorithm, spdx_word}
 use Rattle.pylock_bill.specs.Purl.{normal_version, purl}
@@ -94,6 +95,24 @@ relationship_rows number =
 abbrev pub relationship_data : ℕ → EntryValue → SourceValue → Data
 relationship_data number entry source = object_of (relationship_rows number)
 
+-- the package of one number depends on that of the other
+abbrev pub depends_rows : ℕ → ℕ → List Row
+depends_rows number other =
+    (codes "spdxElementId", there (package_id number))
+    ∷ (codes "relationshipType", there (codes "DEPENDS_ON"))
+    ∷ (codes "relatedSpdxElement", there (package_id other))
+    ∷ []
+
+-- a package depends on each of these
+abbrev pub depends_data : DependentValue → List Data
+depends_data dependent =
+    map (λ other. object_of (depends_rows dependent.number other)) dependent.depends_on
+
+-- the document describes each package, and then what they depend on
+abbrev pub relationships_data : State → List Pick → List DependentValue → List Data
+relationships_data state picks dependents =
+    flat_map (of_pick relationship_data state) picks ++ flat_map depends_data dependents
+
 -- ---- the document (section 6)
 
 -- when it was made, and by what (sections 6.8 and 6.9)
@@ -104,8 +123,8 @@ creation_rows created =
     ∷ []
 
 -- the packages in the order of the plan, of this time and under this namespace
-abbrev pub spdx_rows : State → List Pick → List ℕ → List ℕ → List Row
-spdx_rows state picks created namespace =
+abbrev pub spdx_rows : State → List Pick → List DependentValue → List ℕ → List ℕ → List Row
+spdx_rows state picks dependents created namespace =
     (codes "spdxVersion", there (codes "SPDX-2.3"))
     ∷ (codes "dataLicense", there (codes "CC0-1.0"))
     ∷ (codes "SPDXID", there (codes "SPDXRef-DOCUMENT"))
@@ -113,5 +132,5 @@ spdx_rows state picks created namespace =
     ∷ (codes "documentNamespace", there namespace)
     ∷ (codes "creationInfo", Some (object_of (creation_rows created)))
     ∷ (codes "packages", Some (list_of (flat_map (of_pick package_data state) picks)))
-    ∷ (codes "relationships", Some (list_of (flat_map (of_pick relationship_data state) picks)))
+    ∷ (codes "relationships", Some (list_of (relationships_data state picks dependents)))
     ∷ []

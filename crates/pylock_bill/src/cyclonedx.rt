@@ -1,12 +1,16 @@
 //! The bill of materials as CycloneDX 1.6 has it.
 
-ghost use Rattle.std.specs.Prelude.{◌≡◌, ◌++◌, IfOk, OnOk, codes, map};
+ghost use Rattle.std.specs.Prelude.{◌≡◌, ◌++◌, IfOk, OnOk, codes, map, string_bytes};
 ghost use Rattle.std.specs.List.{flat_map};
+ghost use Rattle.serde_json.specs.Data.{string};
 ghost use Rattle.serde_json.specs.View.{members_view, view as data_of};
-ghost use Rattle.pylock_json.specs.Json.{members_of, object_of};
+ghost use Rattle.pylock_json.specs.Json.{members_of, object_of, with_row};
 ghost use Rattle.pylock_readers.specs.Text.{text_pair, text_pairs};
 ghost use Rattle.pylock_core.specs.Session.Picks.{lent_source};
-ghost use Rattle.pylock_bill.specs.CycloneDx.{component_data, cyclonedx_rows, hash_data, hash_rows};
+ghost use Rattle.pylock_metadata.specs.View.{dependent_view, dependents_view};
+ghost use Rattle.pylock_bill.specs.CycloneDx.{component_data, component_reference};
+ghost use Rattle.pylock_bill.specs.CycloneDx.{cyclonedx_rows, dependencies_data, dependency_data};
+ghost use Rattle.pylock_bill.specs.CycloneDx.{hash_data, hash_rows};
 ghost use Rattle.pylock_bill.specs.CycloneDx.{metadata_rows, reference_rows, reference_word};
 ghost use Rattle.pylock_bill.specs.CycloneDx.{references, tool_rows, tools_rows};
 ghost use Rattle.pylock_bill.specs.Source.{of_pick};
@@ -16,9 +20,11 @@ use crate::purl::{normal_version_of, purl_of};
 use crate::source::source_url;
 use pylock_core::{Entry, Pick, PickedSource, Plan, Session};
 use pylock_json::{Json, List, Object};
+use pylock_metadata::Dependent;
 use std::alloc::{AllocError, Global};
 
-/// The bill of materials of a plan as CycloneDX 1.6 has it: a component of each pick, in order. It
+/// The bill of materials of a plan as CycloneDX 1.6 has it: a component of each pick, in order, and
+/// what these of them depend on, which [`dependencies`](pylock_metadata::dependencies) makes. It
 /// has neither a serial number nor a time, so the same plan gives the same document. A URL in which
 /// something may be a secret is left out, and so is a hash whose algorithm CycloneDX or SPDX has no
 /// name for. It takes memory for the object.
@@ -26,9 +32,10 @@ pub fn cyclonedx_document(
     alloc: Global,
     session: &Session,
     plan: &Plan,
+    dependencies: &[Dependent],
 ) -> Result<Object, AllocError>
-    ensures { IfOk result (λ object. members_view object
-        ≡ members_of (cyclonedx_rows session.now.state plan.now)) }
+    ensures { IfOk result (λ object. members_view object ≡ members_of
+        (cyclonedx_rows session.now.state plan.now (dependents_view dependencies.now))) }
 {
     let metadata = metadata_object(alloc)?;
     let components = components_list(alloc, session, plan.picks())?;
@@ -38,6 +45,7 @@ pub fn cyclonedx_document(
     object.put_number(alloc, "version", 1)?;
     object.put(alloc, "metadata", metadata)?;
     object.put(alloc, "components", components.into_json())?;
+    put_dependencies(alloc, &mut object, dependencies)?;
     Ok(object)
 }
 
@@ -112,7 +120,7 @@ fn component_object(
     ensures { IfOk result (λ json. data_of json
         ≡ component_data number entry.now (lent_source source.entry)) }
 {
-    let reference = format!(in alloc; "pylock-{number}")?;
+    let reference = component_reference(alloc, number)?;
     let version = normal_version_of(alloc, entry.version())?;
     let purl = purl_of(alloc, entry.name(), entry.version())?;
     let hashes = hashes_list(alloc, source.hashes())?;
@@ -126,6 +134,68 @@ fn component_object(
     object.put(alloc, "hashes", hashes.into_json())?;
     object.put(alloc, "externalReferences", references.into_json())?;
     Ok(object.into_json())
+}
+
+/// The name of the component of this number within the document.
+fn component_reference(alloc: Global, number: u32) -> Result<String, AllocError>
+    ensures { IfOk result (λ text. string_bytes text ≡ component_reference number) }
+{
+    let text = format!(in alloc; "pylock-{number}")?;
+    Ok(text)
+}
+
+// ---- dependencies
+
+/// Puts the list of what components depend on, where it isn't empty.
+fn put_dependencies(
+    alloc: Global,
+    object: &mut Object,
+    dependencies: &[Dependent],
+) -> Result<(), AllocError>
+    ensures { OnOk result (members_view object.new ≡ with_row
+        (codes "dependencies", dependencies_data (dependents_view dependencies.now))
+        (members_view object.old)) }
+{
+    if dependencies.is_empty() {
+        return Ok(());
+    }
+    let list = dependencies_list(alloc, dependencies)?;
+    object.put(alloc, "dependencies", list.into_json())
+}
+
+fn dependencies_list(alloc: Global, dependencies: &[Dependent]) -> Result<List, AllocError>
+    ensures { IfOk result (λ list. map data_of list
+        ≡ map dependency_data (dependents_view dependencies.now)) }
+{
+    let mut list = List::new(alloc);
+    for dependent in dependencies {
+        list.push(dependency_object(alloc, dependent)?)?;
+    }
+    Ok(list)
+}
+
+fn dependency_object(alloc: Global, dependent: &Dependent) -> Result<Json, AllocError>
+    ensures { IfOk result (λ json. data_of json
+        ≡ dependency_data (dependent_view dependent.now)) }
+{
+    let reference = component_reference(alloc, dependent.number)?;
+    let others = component_references(alloc, &dependent.depends_on)?;
+    let mut object = Object::new(alloc);
+    object.put_text(alloc, "ref", reference.as_str())?;
+    object.put(alloc, "dependsOn", others.into_json())?;
+    Ok(object.into_json())
+}
+
+fn component_references(alloc: Global, numbers: &[u32]) -> Result<List, AllocError>
+    ensures { IfOk result (λ list. map data_of list
+        ≡ map string (map component_reference numbers.now)) }
+{
+    let mut list = List::new(alloc);
+    for number in numbers {
+        let reference = component_reference(alloc, *number)?;
+        list.push_text(alloc, reference.as_str())?;
+    }
+    Ok(list)
 }
 
 // ---- hashes

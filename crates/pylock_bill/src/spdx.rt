@@ -7,10 +7,11 @@ ghost use Rattle.serde_json.specs.View.{members_view, view as data_of};
 ghost use Rattle.pylock_json.specs.Json.{members_of, object_of};
 ghost use Rattle.pylock_readers.specs.Text.{text_pair, text_pairs};
 ghost use Rattle.pylock_core.specs.Session.Picks.{lent_source};
+ghost use Rattle.pylock_metadata.specs.View.{dependent_view, dependents_view};
 ghost use Rattle.pylock_bill.specs.Spdx.{checksum_data, checksum_rows, creation_rows};
-ghost use Rattle.pylock_bill.specs.Spdx.{asserted, location_text, package_data, package_id};
-ghost use Rattle.pylock_bill.specs.Spdx.{purl_rows};
-ghost use Rattle.pylock_bill.specs.Spdx.{relationship_data, relationship_rows, spdx_rows};
+ghost use Rattle.pylock_bill.specs.Spdx.{asserted, depends_data, depends_rows, location_text};
+ghost use Rattle.pylock_bill.specs.Spdx.{package_data, package_id, purl_rows, relationship_data};
+ghost use Rattle.pylock_bill.specs.Spdx.{relationship_rows, relationships_data, spdx_rows};
 ghost use Rattle.pylock_bill.specs.Spdx.{url_location};
 ghost use Rattle.pylock_bill.specs.Purl.{purl};
 ghost use Rattle.pylock_bill.specs.Source.{of_pick};
@@ -20,10 +21,12 @@ use crate::purl::{normal_version_of, purl_of};
 use crate::source::{has_uri_characters, source_url};
 use pylock_core::{Entry, Pick, PickedSource, Plan, Session};
 use pylock_json::{Json, List, Object};
+use pylock_metadata::Dependent;
 use std::alloc::{AllocError, Global};
 
 /// The bill of materials of a plan as SPDX 2.3 has it, made at this time and with this namespace: a
-/// package of each pick, in order. Both texts are taken as they are;
+/// package of each pick, in order, and what these of them depend on, which
+/// [`dependencies`](pylock_metadata::dependencies) makes. Both texts are taken as they are;
 /// [`namespace_of`](crate::namespace_of) makes the second. A URL in which something may be a secret
 /// is left out, and so is a hash whose algorithm CycloneDX or SPDX has no name for. It takes memory
 /// for the object.
@@ -31,15 +34,17 @@ pub fn spdx_document(
     alloc: Global,
     session: &Session,
     plan: &Plan,
+    dependencies: &[Dependent],
     created: &str,
     namespace: &str,
 ) -> Result<Object, AllocError>
-    ensures { IfOk result (λ object. members_view object
-        ≡ members_of (spdx_rows session.now.state plan.now created.now namespace.now)) }
+    ensures { IfOk result (λ object. members_view object ≡ members_of
+        (spdx_rows session.now.state plan.now (dependents_view dependencies.now) created.now
+        namespace.now)) }
 {
     let creation = creation_object(alloc, created)?;
     let packages = packages_list(alloc, session, plan.picks())?;
-    let relationships = relationships_list(alloc, session, plan.picks())?;
+    let relationships = relationships_list(alloc, session, plan.picks(), dependencies)?;
     let mut object = Object::new(alloc);
     object.put_text(alloc, "spdxVersion", "SPDX-2.3")?;
     object.put_text(alloc, "dataLicense", "CC0-1.0")?;
@@ -224,7 +229,22 @@ fn references_list(alloc: Global, name: &str, version: Option<&str>) -> Result<L
 
 // ---- relationships
 
-fn relationships_list(alloc: Global, session: &Session, picks: &[Pick]) -> Result<List, AllocError>
+fn relationships_list(
+    alloc: Global,
+    session: &Session,
+    picks: &[Pick],
+    dependencies: &[Dependent],
+) -> Result<List, AllocError>
+    ensures { IfOk result (λ list. map data_of list ≡ relationships_data session.now.state
+        picks.now (dependents_view dependencies.now)) }
+{
+    let mut list = described_list(alloc, session, picks)?;
+    push_dependencies(alloc, &mut list, dependencies)?;
+    Ok(list)
+}
+
+/// The document describes the package of each pick.
+fn described_list(alloc: Global, session: &Session, picks: &[Pick]) -> Result<List, AllocError>
     ensures { IfOk result (λ list. map data_of list
         ≡ flat_map (of_pick relationship_data session.now.state) picks.now) }
 {
@@ -262,5 +282,43 @@ fn relationship_object(alloc: Global, number: u32) -> Result<Json, AllocError>
     object.put_text(alloc, "spdxElementId", "SPDXRef-DOCUMENT")?;
     object.put_text(alloc, "relationshipType", "DESCRIBES")?;
     object.put_text(alloc, "relatedSpdxElement", id.as_str())?;
+    Ok(object.into_json())
+}
+
+/// Adds what packages depend on.
+fn push_dependencies(
+    alloc: Global,
+    list: &mut List,
+    dependencies: &[Dependent],
+) -> Result<(), AllocError>
+    ensures { OnOk result (map data_of list.new ≡ map data_of list.old
+        ++ flat_map depends_data (dependents_view dependencies.now)) }
+{
+    for dependent in dependencies {
+        push_dependent(alloc, list, dependent)?;
+    }
+    Ok(())
+}
+
+/// Adds the packages that one depends on.
+fn push_dependent(alloc: Global, list: &mut List, dependent: &Dependent) -> Result<(), AllocError>
+    ensures { OnOk result (map data_of list.new ≡ map data_of list.old
+        ++ depends_data (dependent_view dependent.now)) }
+{
+    for other in &dependent.depends_on {
+        list.push(depends_object(alloc, dependent.number, *other)?)?;
+    }
+    Ok(())
+}
+
+fn depends_object(alloc: Global, number: u32, other: u32) -> Result<Json, AllocError>
+    ensures { IfOk result (λ json. data_of json ≡ object_of (depends_rows number other)) }
+{
+    let id = package_id(alloc, number)?;
+    let other = package_id(alloc, other)?;
+    let mut object = Object::new(alloc);
+    object.put_text(alloc, "spdxElementId", id.as_str())?;
+    object.put_text(alloc, "relationshipType", "DEPENDS_ON")?;
+    object.put_text(alloc, "relatedSpdxElement", other.as_str())?;
     Ok(object.into_json())
 }

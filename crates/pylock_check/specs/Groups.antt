@@ -1,7 +1,7 @@
 -- Dependency groups that include others (PEP 735, "Dependency Group Include").
-use Rattle.std.specs.Prelude.{ℕ, zero, suc, Bool, false, ◌&&◌, ◌||◌, List, [], ◌∷◌, length, map}
-use Rattle.std.specs.Prelude.{Result, Ok, Err, if◌then◌else◌, ⊤}
-use Rattle.std.specs.List.{list_all, list_any}
+use Rattle.std.specs.Prelude.{◌≡◌, ℕ, zero, suc, Bool, false, ◌&&◌, ◌||◌, List, [], ◌∷◌, length}
+use Rattle.std.specs.Prelude.{map, Result, Ok, Err, if◌then◌else◌, ⊤, IsTrue}
+use Rattle.std.specs.List.{Contains, list_all, list_any}
 use Rattle.std.specs.Str.{bytes_eq}
 use Rattle.pytext.specs.Results.{◌>>=◌}
 use Rattle.pymark_core.specs.Environment.{EnvironmentValue, has_group}
@@ -101,3 +101,17 @@ all_end (marked ∷ rest) =
 
 unfoldable pub proper_groups : List SectionValue → Result ⊤ ProjectError
 proper_groups groups = known_in groups groups >>= λ _. all_end (found_of ends groups)
+
+-- ---- chains of includes
+
+-- each group has a name of its own
+abbrev pub HaveOwnNames : List SectionValue → Type 0
+HaveOwnNames groups =
+    (one other : SectionValue) → Contains groups one → Contains groups other
+    → one.name ≡ other.name → one ≡ other
+
+-- the first group includes the next of these, that one the next, and so on to the last
+abbrev pub LeadsOver : SectionValue → (between : List SectionValue) → SectionValue → Type 0
+LeadsOver first [] last = IsTrue (includes last.name first)
+LeadsOver first (next ∷ between) last =
+    IsTrue (includes next.name first) × LeadsOver next between last

@@ -6,4 +6,5 @@ pub mod Reading
 pub mod Judging
 pub mod Head
 pub mod Written
+pub mod Targets
 pub mod Words

@@ -24,13 +24,15 @@ mod project;
 mod reading;
 mod requirements;
 mod sections;
+mod targets;
 
 pub use difference::{Difference, DifferenceKind};
-pub use document::differences_document;
+pub use document::{differences_document, target_checks_document};
 pub use error::ProjectError;
 pub use head::head_differences;
 pub use judging::differences;
-pub use line::push_differences;
+pub use line::{push_differences, push_target_checks};
 pub use project::Project;
 pub use requirements::{Declaration, Include, Requirements};
 pub use sections::Section;
+pub use targets::{DifferenceList, TargetCheck, TargetOutcome, is_clean, target_checks};

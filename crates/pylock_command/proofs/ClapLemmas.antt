@@ -14,6 +14,7 @@ use Rattle.pylock_command.specs.declared.command_line.CommandError.TheVariants.{
 use Rattle.pylock_command.specs.Misuse.{kind_of_misuse}
 use Rattle.pylock_command.specs.declared.misuse.Misuse.{Misuse}
 use Rattle.pylock_command.specs.declared.misuse.Misuse.TheVariants.{BadTime, EditsAndFile}
+use Rattle.pylock_command.specs.declared.misuse.Misuse.TheVariants.{EnvAndMatrix}
 use Rattle.pylock_command.specs.declared.misuse.Misuse.TheVariants.{FormatOfRows, HalfTarget}
 use Rattle.pylock_command.specs.declared.misuse.Misuse.TheVariants.{Missing, NoAuditFormat}
 use Rattle.pylock_command.specs.declared.misuse.Misuse.TheVariants.{NoFileFormat}
@@ -33,6 +34,7 @@ memory-told Missing is = absurd cc
 memory-told NoMachine is = absurd cc
 memory-told TwoMachines is = absurd cc
 memory-told HalfTarget is = absurd cc
+memory-told EnvAndMatrix is = absurd cc
 memory-told NoPlans is = absurd cc
 memory-told TwoForms is = absurd cc
 memory-told NoPlanFormat is = absurd cc

@@ -1,8 +1,8 @@
 -- How many paths are the word for standard input.
 use Rattle.std.proofs.Common.{◌≡◌, ◌∙◌, ℕ, Bor, Bool, suc, true, false, cond, List, [], ◌∷◌, None, Some, ap, length, map, nat_lt, refl, sym}
 use Rattle.std.specs.List.{filter}
-use Rattle.clap.specs.Words.{Row, Text}
-use Rattle.pylock_command.specs.Asked.{audit_inputs_misuse, audit_paths, input_count, is_dash}
+use Rattle.clap.specs.Words.{Text}
+use Rattle.pylock_command.specs.Asked.{input_count, is_dash, paths_misuse}
 use Rattle.pylock_command.specs.declared.misuse.Misuse.TheVariants.{TwoInputs}
 
 abbrev is_input : Bor Text → Bool
@@ -22,12 +22,12 @@ of_lent (path ∷ paths) = by (is_input path) (of_lent paths)
     by true rest = ap suc rest
     by false rest = rest
 
-module _ (rows : List Row) (paths : List (Bor Text)) (n : ℕ) (are : map (λ path. path.now) paths ≡ audit_paths rows) (is : n ≡ length (filter is_input paths)) where
-  same : n ≡ input_count (audit_paths rows)
-  same = is ∙ of_lent paths ∙ ap input_count are
+module _ (paths : List (Bor Text)) (n : ℕ) (is : n ≡ length (filter is_input paths)) where
+  same : n ≡ input_count (map (λ path. path.now) paths)
+  same = is ∙ of_lent paths
 
-  pub refused : nat_lt 1 n ≡ true → audit_inputs_misuse rows ≡ Some TwoInputs
+  pub refused : nat_lt 1 n ≡ true → paths_misuse (map (λ path. path.now) paths) ≡ Some TwoInputs
   refused more = ap (λ b. cond b (Some TwoInputs) None) (ap (nat_lt 1) (sym same) ∙ more)
 
-  pub taken : nat_lt 1 n ≡ false → audit_inputs_misuse rows ≡ None
+  pub taken : nat_lt 1 n ≡ false → paths_misuse (map (λ path. path.now) paths) ≡ None
   taken few = ap (λ b. cond b (Some TwoInputs) None) (ap (nat_lt 1) (sym same) ∙ few)

@@ -13,6 +13,10 @@ text_rule id = record (new_rule id) { required = true }
 abbrev pub optional_rule : Text → Rule
 optional_rule id = new_rule id
 
+-- texts that are known by their place, of which one has to be there
+abbrev pub texts_rule : Text → Rule
+texts_rule id = record (text_rule id) { action = Some Append }
+
 -- an option without a text, which stands once at most
 abbrev pub flag_rule : Text → Rule
 flag_rule name = record (new_rule name) { long = Some name; action = Some SetTrue }
@@ -34,6 +38,7 @@ repeated_rule name =
 abbrev pub rule_of_kind : Kind → Text → Rule
 rule_of_kind kind.Text id = text_rule id
 rule_of_kind kind.OptionalText id = optional_rule id
+rule_of_kind kind.Texts id = texts_rule id
 rule_of_kind kind.Flag id = flag_rule id
 rule_of_kind (kind.Single value) id = single_rule id
 rule_of_kind (kind.Needed value) id = needed_rule id

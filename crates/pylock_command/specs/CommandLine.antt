@@ -1,5 +1,5 @@
 -- The program's command line, in clap's terms.
-use Rattle.std.specs.Prelude.{◌≡◌, ◌≢◌, ◌⊎◌, ⊤, true, codes, List, [], ◌∷◌, ◌++◌}
+use Rattle.std.specs.Prelude.{◌≡◌, ◌≢◌, ◌⊎◌, ⊤, true, false, codes, List, [], ◌∷◌, ◌++◌}
 use Rattle.std.specs.Prelude.{find, Option, Some, None, IsSomeAnd, fold}
 use Rattle.std.specs.Option.{option_map_or}
 use Rattle.std.specs.Str.{bytes_eq}
@@ -8,13 +8,13 @@ use Rattle.clap.specs.Words.{new_app, subcommand_of, with_subcommand}
 use Rattle.clap.specs.declared.error.Error.{Error}
 use Rattle.clap.specs.declared.error.kind.ErrorKind.TheVariants.{OutOfMemory}
 use Rattle.pylock_command.specs.Argument.{flag_rule, needed_rule, optional_rule, repeated_rule}
-use Rattle.pylock_command.specs.Argument.{single_rule, text_rule}
-use Rattle.pylock_command.specs.Asked.{IsAudit, IsCheck, IsComparison, IsMatrix, IsOpening}
-use Rattle.pylock_command.specs.Asked.{IsQuestion, IsStatus, audit_misuse, check_misuse}
-use Rattle.pylock_command.specs.Asked.{comparison_misuse}
-use Rattle.pylock_command.specs.Asked.{matrix_misuse, question_misuse}
+use Rattle.pylock_command.specs.Argument.{single_rule, text_rule, texts_rule}
+use Rattle.pylock_command.specs.Asked.{IsAudit, IsCheck, IsCheckMatrix, IsComparison, IsFiles}
+use Rattle.pylock_command.specs.Asked.{IsMatrix, IsOpening, IsQuestion, IsStatus, audit_misuse}
+use Rattle.pylock_command.specs.Asked.{any_check_misuse, comparison_misuse, files_misuse}
+use Rattle.pylock_command.specs.Asked.{has_matrix, matrix_misuse, question_misuse}
 use Rattle.pylock_command.specs.Asked.{select_misuse, status_misuse}
-use Rattle.pylock_command.specs.Form.{IsFilesOutput, files_output_misuse, form_of}
+use Rattle.pylock_command.specs.Form.{form_of}
 use Rattle.pylock_command.specs.Machine.{IsMachine, IsTarget, machine_misuse, target_misuse}
 use Rattle.pylock_command.specs.Misuse.{first, kind_of_misuse, lack}
 use Rattle.pylock_command.specs.Subcommand.{Subcommand, row, subcommand_app}
@@ -27,8 +27,8 @@ use Rattle.pylock_command.specs.declared.task.Output.{Output}
 use Rattle.pylock_command.specs.declared.task.Output.TheVariants.{View}
 use Rattle.pylock_command.specs.declared.task.Question.{Question}
 use Rattle.pylock_command.specs.declared.task.Task.{Task}
-use Rattle.pylock_command.specs.declared.task.Task.TheVariants.{Audit, Bare, Check, Diff}
-use Rattle.pylock_command.specs.declared.task.Task.TheVariants.{Environment}
+use Rattle.pylock_command.specs.declared.task.Task.TheVariants.{Audit, Bare, Check, CheckMatrix}
+use Rattle.pylock_command.specs.declared.task.Task.TheVariants.{Diff, Environment}
 use Rattle.pylock_command.specs.declared.task.Task.TheVariants.{Files, Marker, Matrix, Select, Show}
 use Rattle.pylock_command.specs.declared.task.Task.TheVariants.{Status, Summary}
 use Rattle.pylock_command.specs.declared.task.Task.TheVariants as task
@@ -85,11 +85,7 @@ base = single_rule (codes "base")
 
 -- ---- the subcommands
 
--- the words of these have all their texts, of `files` no word but those of a form, and of `marker`
--- they name a machine
-abbrev pub files_misuse : List Row → Option Misuse
-files_misuse rows = first (lack (codes "LOCK") rows ∷ files_output_misuse rows ∷ [])
-
+-- the words of these have all their texts, and of `marker` they name a machine
 abbrev pub match_misuse : List Row → Option Misuse
 match_misuse rows = first (lack (codes "SET") rows ∷ lack (codes "VERSION") rows ∷ [])
 
@@ -129,10 +125,11 @@ subcommands =
     (locked (machine_rules ++ needed_rule (codes "installed") ∷ flag_rule (codes "exact")
     ∷ option_rules ++ strict ∷ json ∷ [])) status_misuse
     ∷ row (codes "check")
-    (locked (text_rule (codes "PROJECT") ∷ machine_rules ++ option_rules ++ strict ∷ json ∷ []))
-    check_misuse
+    (locked (text_rule (codes "PROJECT") ∷ machine_rules ++ flag_rule (codes "matrix")
+    ∷ option_rules ++ strict ∷ json ∷ [])) any_check_misuse
     ∷ row (codes "show") (locked (json ∷ [])) (lack (codes "LOCK"))
-    ∷ row (codes "files") (locked (format ∷ base ∷ json ∷ [])) files_misuse
+    ∷ row (codes "files")
+    (texts_rule (codes "LOCK") ∷ left_rules ++ format ∷ base ∷ json ∷ []) files_misuse
     ∷ row (codes "audit")
     (locked (flag_rule (codes "environments") ∷ repeated_rule (codes "advisories")
     ∷ repeated_rule (codes "host") ∷ single_rule (codes "fail-on")
@@ -200,11 +197,13 @@ IsTask found (Select opening form) =
     IsIn found (codes "select") (λ rows. IsOpening rows opening × (form ≡ form_of rows))
 IsTask found (Matrix asked) = IsIn found (codes "matrix") (λ rows. IsMatrix rows asked)
 IsTask found (Status asked) = IsIn found (codes "status") (λ rows. IsStatus rows asked)
-IsTask found (Check asked) = IsIn found (codes "check") (λ rows. IsCheck rows asked)
+IsTask found (Check asked) =
+    IsIn found (codes "check") (λ rows. (has_matrix rows ≡ false) × IsCheck rows asked)
+IsTask found (CheckMatrix asked) =
+    IsIn found (codes "check") (λ rows. (has_matrix rows ≡ true) × IsCheckMatrix rows asked)
 IsTask found (Summary lock form) = IsIn found (codes "show")
     (λ rows. HasText rows (codes "LOCK") lock.now × (form ≡ form_of rows))
-IsTask found (Files lock output) = IsIn found (codes "files")
-    (λ rows. HasText rows (codes "LOCK") lock.now × IsFilesOutput rows output)
+IsTask found (Files asked) = IsIn found (codes "files") (λ rows. IsFiles rows asked)
 IsTask found (Audit asked) = IsIn found (codes "audit") (λ rows. IsAudit rows asked)
 IsTask found (Diff comparison) = IsIn found (codes "diff") (λ rows. IsComparison rows comparison)
 IsTask found (Environment target) =

@@ -8,6 +8,7 @@ use Rattle.clap.specs.declared.error.kind.ErrorKind.TheVariants.{MissingRequired
 use Rattle.clap.specs.declared.error.kind.ErrorKind.TheVariants.{InvalidValue}
 use Rattle.pylock_command.specs.declared.misuse.Misuse.{Misuse}
 use Rattle.pylock_command.specs.declared.misuse.Misuse.TheVariants.{BadTime, EditsAndFile}
+use Rattle.pylock_command.specs.declared.misuse.Misuse.TheVariants.{EnvAndMatrix}
 use Rattle.pylock_command.specs.declared.misuse.Misuse.TheVariants.{FormatOfRows, HalfTarget}
 use Rattle.pylock_command.specs.declared.misuse.Misuse.TheVariants.{Missing, NoBase, NoFileFormat}
 use Rattle.pylock_command.specs.declared.misuse.Misuse.TheVariants.{NoAuditFormat, NoMachine}
@@ -28,6 +29,7 @@ kind_of_misuse FormatOfRows = MissingRequiredArgument
 kind_of_misuse NoTime = MissingRequiredArgument
 kind_of_misuse NoUrls = MissingRequiredArgument
 kind_of_misuse TwoMachines = ArgumentConflict
+kind_of_misuse EnvAndMatrix = ArgumentConflict
 kind_of_misuse TwoForms = ArgumentConflict
 kind_of_misuse StrayTime = ArgumentConflict
 kind_of_misuse TwoInputs = ArgumentConflict

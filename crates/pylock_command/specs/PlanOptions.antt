@@ -60,10 +60,17 @@ abbrev pub AreOnFiles : List Row → List OptionWords → Type 0
 AreOnFiles rows = Interleaves (texts_of (codes "only-binary") rows)
     (texts_of (codes "no-binary") rows)
 
--- what the words say of variables, and of which packages of a plan are left
+-- what the words say of which packages are left, and of variables too
+abbrev pub on_left : List Row → List OptionWords
+on_left rows = texts_of (codes "only") rows ++ texts_of (codes "except") rows
+    ++ flag_of (codes "no-project") rows
+
 abbrev pub on_plan : List Row → List OptionWords
-on_plan rows = texts_of (codes "set") rows ++ texts_of (codes "only") rows
-    ++ texts_of (codes "except") rows ++ flag_of (codes "no-project") rows
+on_plan rows = texts_of (codes "set") rows ++ on_left rows
+
+-- these say what is left, and nothing else
+abbrev pub AreLeft : List Row → List PlanOption → Type 0
+AreLeft rows options = map option_words options ≡ on_left rows
 
 -- the options that the rows have, in the order in which `PlanOption` names them
 pub record AreOptions (rows : List Row) (options : List PlanOption) : Type 0 where

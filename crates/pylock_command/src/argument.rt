@@ -22,6 +22,8 @@ pub(crate) enum Kind {
     Text,
     /// A text that is known by its place, and may be left out.
     OptionalText,
+    /// Texts that are known by their place, of which one has to be there.
+    Texts,
     /// An option without a text, which stands once at most.
     Flag,
     /// An option with a text, which stands once at most.
@@ -91,6 +93,7 @@ fn described<'a>(alloc: Global, argument: Argument) -> Arg<'a>
     match argument.kind {
         Kind::Text => described.required(true),
         Kind::OptionalText => described,
+        Kind::Texts => described.required(true).action(ArgAction::Append),
         Kind::Flag => described.long(argument.name).action(ArgAction::SetTrue),
         Kind::Single(value) => single(described, argument.name, value),
         Kind::Needed(value) => single(described, argument.name, value).required(true),

@@ -1,24 +1,25 @@
 //! What the subcommands with several arguments are asked, by what clap found.
-ghost use Rattle.std.specs.Prelude.{◌≡◌, ◌++◌, IfOk, OnOk, codes, filter, length, map};
+ghost use Rattle.std.specs.Prelude.{◌≡◌, ◌∷◌, ◌++◌, IfOk, OnOk, codes, filter, length, map};
 ghost use Rattle.std.specs.Prelude.{option_to_list};
 ghost use Rattle.clap.specs.Words.{found_of, rows_of};
-ghost use Rattle.pylock_command.specs.Asked.{IsAudit, IsCheck, IsComparison, IsInstallation};
-ghost use Rattle.pylock_command.specs.Asked.{IsMatrix, IsOpening, IsQuestion, IsStatus};
+ghost use Rattle.pylock_command.specs.Asked.{IsAudit, IsCheck, IsCheckMatrix, IsComparison};
+ghost use Rattle.pylock_command.specs.Asked.{IsFiles, IsInstallation, IsMatrix, IsOpening};
+ghost use Rattle.pylock_command.specs.Asked.{IsQuestion, IsStatus, HasTexts};
 ghost use Rattle.pylock_command.specs.Asked.{audit_inputs_misuse, audit_misuse, audit_paths};
-ghost use Rattle.pylock_command.specs.Asked.{is_dash};
-ghost use Rattle.pylock_command.specs.Asked.{check_misuse, comparison_misuse};
+ghost use Rattle.pylock_command.specs.Asked.{check_matrix_misuse, check_misuse, comparison_misuse};
+ghost use Rattle.pylock_command.specs.Asked.{env_misuse, files_misuse, is_dash, paths_misuse};
 ghost use Rattle.pylock_command.specs.Asked.{installation_misuse, matrix_misuse, opening_misuse};
 ghost use Rattle.pylock_command.specs.Asked.{question_misuse, select_misuse, status_misuse};
-ghost use Rattle.pylock_command.specs.Misuse.{Refuses, RefusesUnless};
+ghost use Rattle.pylock_command.specs.Misuse.{Refuses, RefusesUnless, lack};
 ghost use Rattle.pylock_command.specs.PlanOptions.{texts_at};
 
-use crate::form::{audit_output_of, form_of, matrix_output_of, output_of};
+use crate::form::{audit_output_of, files_output_of, form_of, matrix_output_of, output_of};
 use crate::machine::{machine_of, place_of};
 use crate::misuse::{Misuse, NoTask};
-use crate::options::{options_of, texts};
+use crate::options::{left_of, options_of, texts};
 use crate::task::{
-    AuditQuestion, CheckQuestion, Comparison, Installation, MatrixQuestion, Opening, Question,
-    StatusQuestion, View,
+    AuditQuestion, CheckMatrixQuestion, CheckQuestion, Comparison, FilesQuestion, Installation,
+    MatrixQuestion, Opening, Question, StatusQuestion, View,
 };
 use crate::texts::{STANDARD_INPUT, has_flag, judge_input, judge_inputs, text_at, text_of};
 use clap::ArgMatches;
@@ -89,6 +90,37 @@ pub(crate) fn matrix_of<'a>(
     })
 }
 
+/// What `files` is asked.
+pub(crate) fn files_of<'a>(
+    alloc: Global,
+    found: &ArgMatches<'a>,
+) -> Result<FilesQuestion<'a>, NoTask>
+    ensures files { IfOk result (IsFiles (rows_of (found_of found.now))) }
+    ensures refused { RefusesUnless (files_misuse (rows_of (found_of found.now))) result }
+{
+    let (lock, others) = locks_of(found)?;
+    let output = files_output_of(found)?;
+    judge_paths(texts(found, "LOCK"))?;
+    Ok(FilesQuestion {
+        lock,
+        others: Vec::from_slice(alloc, others)?,
+        options: left_of(alloc, found)?,
+        output,
+    })
+}
+
+/// The first of the locks, and the others.
+fn locks_of<'b, 'a>(found: &'b ArgMatches<'a>) -> Result<(&'a str, &'b [&'a str]), Misuse>
+    ensures locks { IfOk result (λ locks. HasTexts (rows_of (found_of found.now)) (codes "LOCK")
+        (locks.0 ∷ locks.1.now)) }
+    ensures refused { Refuses (lack (codes "LOCK") (rows_of (found_of found.now))) result }
+{
+    match texts(found, "LOCK").split_first() {
+        Some((lock, others)) => Ok((*lock, others)),
+        None => Err(Misuse::Missing),
+    }
+}
+
 /// What `audit` is asked.
 pub(crate) fn audit_of<'a>(
     alloc: Global,
@@ -117,8 +149,16 @@ fn judge_audit_inputs(alloc: Global, found: &ArgMatches<'_>) -> Result<(), NoTas
     ensures { RefusesUnless (audit_inputs_misuse (rows_of (found_of found.now))) result }
 {
     let paths = audit_paths(alloc, found)?;
-    if input_count(&paths) > 1 {
-        return Err(NoTask::Misused(Misuse::TwoInputs));
+    judge_paths(&paths)?;
+    Ok(())
+}
+
+/// Refuses standard input as two of these files.
+fn judge_paths(paths: &[&str]) -> Result<(), Misuse>
+    ensures { Refuses (paths_misuse (map (λ path. path.now) paths.now)) result }
+{
+    if input_count(paths) > 1 {
+        return Err(Misuse::TwoInputs);
     }
     Ok(())
 }
@@ -212,6 +252,40 @@ pub(crate) fn check_of<'a>(
         project,
         form: form_of(found),
     })
+}
+
+/// What `check --matrix` is asked.
+pub(crate) fn check_matrix_of<'a>(
+    alloc: Global,
+    found: &ArgMatches<'a>,
+) -> Result<CheckMatrixQuestion<'a>, NoTask>
+    ensures check { IfOk result (IsCheckMatrix (rows_of (found_of found.now))) }
+    ensures refused { RefusesUnless (check_matrix_misuse (rows_of (found_of found.now))) result }
+{
+    let lock = text_of(found, "LOCK")?;
+    let project = text_of(found, "PROJECT")?;
+    judge_no_env(found)?;
+    judge_inputs(found, "LOCK", "PROJECT")?;
+    let options = options_of(alloc, found)?;
+    Ok(CheckMatrixQuestion {
+        lock,
+        pythons: text_at(found, "python"),
+        platforms: text_at(found, "platform"),
+        options,
+        strict: has_flag(found, "strict"),
+        project,
+        form: form_of(found),
+    })
+}
+
+/// Refuses the file of an environment beside the targets of a matrix.
+fn judge_no_env(found: &ArgMatches<'_>) -> Result<(), Misuse>
+    ensures { Refuses (env_misuse (rows_of (found_of found.now))) result }
+{
+    if text_at(found, "ENV").is_some() {
+        return Err(Misuse::EnvAndMatrix);
+    }
+    Ok(())
 }
 
 /// What `diff` is asked.

@@ -1,7 +1,8 @@
 //! The command line, from words to a task.
-ghost use Rattle.std.specs.Prelude.{◌≡◌, [], fold, map, None, Some, IfOk, IfErr, OnOk};
+ghost use Rattle.std.specs.Prelude.{◌≡◌, [], codes, fold, map, None, Some, IfOk, IfErr, OnOk};
 ghost use Rattle.clap.specs.Words.{app_of, fault_of, found_of, kind_of, rows_of};
 ghost use Rattle.clap.specs.Words.{subcommand_of, subcommand_rows_of, with_subcommand};
+ghost use Rattle.pylock_command.specs.Asked.{any_check_misuse};
 ghost use Rattle.pylock_command.specs.CommandLine.{IsEnough, IsRefusal, IsTask, misuse_among};
 ghost use Rattle.pylock_command.specs.CommandLine.{misuse_in, misuse_of, text_subcommands};
 ghost use Rattle.pylock_command.specs.CommandLine.{pylock_app, top_app};
@@ -10,15 +11,16 @@ ghost use Rattle.pylock_command.specs.Misuse.{Refuses, RefusesUnless, kind_of_mi
 ghost use Rattle.pylock_command.specs.Subcommand.{usages_for, usages_named, with_usage};
 
 use crate::asked::{
-    audit_of, check_of, comparison_of, matrix_of, question_of, select_of, status_of,
+    audit_of, check_matrix_of, check_of, comparison_of, files_of, matrix_of, question_of,
+    select_of, status_of,
 };
-use crate::form::{files_output_of, form_of};
+use crate::form::form_of;
 use crate::help::ABOUT;
 use crate::machine::{machine_of, target_of};
 use crate::misuse::{Misuse, NoTask};
 use crate::subcommand::{SUBCOMMANDS, Usage, called, subcommand};
 use crate::task::{Task, TextQuestion, View};
-use crate::texts::text_of;
+use crate::texts::{has_flag, text_of};
 use clap::error::ErrorKind;
 use clap::{ArgMatches, Command};
 use std::alloc::{AllocError, Global};
@@ -62,7 +64,7 @@ impl From<clap::Error> for CommandError {
 ///
 /// No source can hold the sum of itself. So 64 characters stand in its place, and where a build is
 /// kept `tools/make/built stamp` writes the sum over them. No contract speaks of this text.
-const VERSION: &str = "1.13.0
+const VERSION: &str = "1.14.0
 sources (not told: rt built it; ./pylock and tools/release tell the sum), \
 proved in logic dac8208d650f15bf";
 
@@ -170,14 +172,25 @@ fn task_in<'a>(alloc: Global, name: &str, found: &ArgMatches<'a>) -> Result<Task
         "select" => Task::Select(select_of(found)?, form),
         "matrix" => Task::Matrix(matrix_of(alloc, found)?),
         "status" => Task::Status(status_of(alloc, found)?),
-        "check" => Task::Check(check_of(alloc, found)?),
+        "check" => check_task_of(alloc, found)?,
         "show" => Task::Summary(text_of(found, "LOCK")?, form),
-        "files" => Task::Files(text_of(found, "LOCK")?, files_output_of(found)?),
+        "files" => Task::Files(files_of(alloc, found)?),
         "audit" => Task::Audit(audit_of(alloc, found)?),
         "diff" => Task::Diff(comparison_of(alloc, found)?),
         "environment" => Task::Environment(target_of(found)?),
         _ => text_task_in(name, found)?,
     })
+}
+
+/// The task of `check`, for a machine or for the targets of a matrix.
+fn check_task_of<'a>(alloc: Global, found: &ArgMatches<'a>) -> Result<Task<'a>, NoTask>
+    ensures task { IfOk result (IsTask (Some (codes "check", rows_of (found_of found.now)))) }
+    ensures refused { RefusesUnless (any_check_misuse (rows_of (found_of found.now))) result }
+{
+    if has_flag(found, "matrix") {
+        return Ok(Task::CheckMatrix(check_matrix_of(alloc, found)?));
+    }
+    Ok(Task::Check(check_of(alloc, found)?))
 }
 
 /// The task of a subcommand that asks about a text by itself.

@@ -295,14 +295,20 @@ The options and a target are those of plan, and so is the line where the answer
 is a fault. Of LOCK, PROJECT and ENV one at most is -. With --json the answer is
 a document, whose member differences has an object for each line.
 
+--matrix judges each target of matrix, and takes no ENV. --python and --platform
+are then those of matrix: words with a comma between two, and without them the
+same targets as there. A line is PYTHON PLATFORM KIND WHERE NAME DETAIL, and for
+what the head of the lock differs in, whatever the target, PYTHON and PLATFORM
+are -. A target that has no plan has the line PYTHON PLATFORM fault ID CODE.
+
 A refused PROJECT prints project, TAB and one of the words not-text, toml, type,
 requires-python, requirement, name, twice, include, unknown-group and cycle, and
 behind most of them the place.
 
 Status: 0, the lock is the project's; 1, something differs, or the answer is a
-fault, or an option is refused; 2, the lock, the environment, PROJECT or the
-command line is refused; 3, a file can't be read, the output failed or memory
-ran out.";
+fault, or an option is refused; 2, the lock, the environment, a word of the
+targets, PROJECT or the command line is refused; 3, a file can't be read, the
+output failed or memory ran out.";
 
 pub(crate) const SHOW: &str = "\
 Example, with spaces for the TABs:
@@ -343,7 +349,17 @@ the nine fields of a line of plan: the entry's number, name, version, kind of
 source, file name, path or URL, hashes, VCS commit and subdirectory. An absent
 field is -. The lines are for programs: a field may hold any character of the
 lock but TAB and LF, which are written \\t and \\n. A terminal gets \\u{HEX} for
-one that steers it. A URL stands there with the password that it may have.
+one that steers it. A URL stands there with the password that it may have. With
+--json the answer is a document, in which a file has size and upload-time too,
+where the lock has them.
+
+With several locks a line has one field more at its end, the number of the lock,
+from 1, and each file stands once, for the first lock that has it. Two files of
+one name with different hashes are refused: it prints refused, TAB, files, TAB
+and which they are. Of the locks one at most is -.
+
+--only, --except and --no-project leave out what they leave out of a plan, as
+the help of plan tells.
 
 --format prints what another tool takes, and nothing else. FORM is one of:
   sha256sum  for sha256sum -c FILE
@@ -365,9 +381,9 @@ of each URL, as for a mirror. FROM is what stands before the first =, and both
 end in /. A URL that begins otherwise stays as it is, and standard error counts
 those.
 
-Status: 0, the lines; 1, a form that can't hold them; 2, the lock or the
-command line is refused; 3, a file can't be read, the output failed or memory
-ran out.";
+Status: 0, the lines; 1, a form that can't hold them, or a refused option; 2, a
+lock, two files of one name or the command line is refused; 3, a file can't be
+read, the output failed or memory ran out.";
 
 pub(crate) const AUDIT: &str = "\
 Example, with spaces for the TABs:

@@ -36,6 +36,7 @@ pub use form::{BillFormat, FileFormat, Form, PlanFormat};
 pub use machine::{Machine, TargetWords};
 pub use option::PlanOption;
 pub use task::{
-    AuditOutput, AuditQuestion, CheckQuestion, Comparison, FilesOutput, Installation, MatrixOutput,
-    MatrixQuestion, Opening, Output, Question, StatusQuestion, Task, TextQuestion, View,
+    AuditOutput, AuditQuestion, CheckMatrixQuestion, CheckQuestion, Comparison, FilesOutput,
+    FilesQuestion, Installation, MatrixOutput, MatrixQuestion, Opening, Output, Question,
+    StatusQuestion, Task, TextQuestion, View,
 };

@@ -17,6 +17,8 @@ pub(crate) enum Misuse {
     TwoMachines,
     /// Of `--python` and `--platform` one stands alone.
     HalfTarget,
+    /// ENV stands beside `--matrix`.
+    EnvAndMatrix,
     /// The options of `plan` stand where no plans are asked for.
     NoPlans,
     /// `--format` stands beside `--json`.
@@ -58,9 +60,11 @@ impl Misuse {
             | Misuse::FormatOfRows
             | Misuse::NoTime
             | Misuse::NoUrls => ErrorKind::MissingRequiredArgument,
-            Misuse::TwoMachines | Misuse::TwoForms | Misuse::StrayTime | Misuse::TwoInputs => {
-                ErrorKind::ArgumentConflict
-            }
+            Misuse::TwoMachines
+            | Misuse::EnvAndMatrix
+            | Misuse::TwoForms
+            | Misuse::StrayTime
+            | Misuse::TwoInputs => ErrorKind::ArgumentConflict,
             Misuse::NoPlanFormat
             | Misuse::NoFileFormat
             | Misuse::NoAuditFormat
@@ -79,6 +83,7 @@ impl Misuse {
                 "the file of an environment can't be used with --python and --platform"
             }
             Misuse::HalfTarget => "--python and --platform have to be given together",
+            Misuse::EnvAndMatrix => "ENV can't be used with --matrix",
             Misuse::NoPlans => { "the options of plan want --in, or --python and --platform" }
             Misuse::TwoForms => "--format can't be used with --json",
             Misuse::NoPlanFormat => {

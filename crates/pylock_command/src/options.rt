@@ -1,8 +1,8 @@
 //! The options of `plan` and `explain`: what clap is told of them, and what it found.
 ghost use Rattle.std.specs.Prelude.{◌≡◌, ◌++◌, List, map, IfOk, OnOk, Some, None};
 ghost use Rattle.clap.specs.Words.{found_of, rows_of};
-ghost use Rattle.pylock_command.specs.PlanOptions.{AreOptions, AreOnFiles, OptionWords, flag_of};
-ghost use Rattle.pylock_command.specs.PlanOptions.{on_extras, on_groups, on_plan};
+ghost use Rattle.pylock_command.specs.PlanOptions.{AreLeft, AreOptions, AreOnFiles, OptionWords};
+ghost use Rattle.pylock_command.specs.PlanOptions.{flag_of, on_extras, on_groups, on_left, on_plan};
 ghost use Rattle.pylock_command.specs.PlanOptions.{option_words, texts_at, texts_of};
 
 use crate::argument::{Argument, Kind};
@@ -60,6 +60,13 @@ pub(crate) const CHOICES: [Argument; 9] = [
     },
 ];
 
+/// Leaves out the project itself.
+const NO_PROJECT: Argument = Argument {
+    name: "no-project",
+    kind: Kind::Flag,
+    help: "Leave out what is editable, and the lock's folder",
+};
+
 /// What is left of a plan, in the order of the help.
 pub(crate) const LEFT: [Argument; 3] = [
     Argument {
@@ -72,11 +79,22 @@ pub(crate) const LEFT: [Argument; 3] = [
         kind: Kind::Repeated("NAME"),
         help: "Leave this package out of the plan",
     },
+    NO_PROJECT,
+];
+
+/// What is left of the sources of locks, in the order of the help.
+pub(crate) const LEFT_OF_FILES: [Argument; 3] = [
     Argument {
-        name: "no-project",
-        kind: Kind::Flag,
-        help: "Leave out what is editable, and the lock's folder",
+        name: "only",
+        kind: Kind::Repeated("NAME"),
+        help: "Print the sources of this package alone, or these",
     },
+    Argument {
+        name: "except",
+        kind: Kind::Repeated("NAME"),
+        help: "Leave out the sources of this package",
+    },
+    NO_PROJECT,
 ];
 
 /// The options that the words have, in the order in which `PlanOption` names them.
@@ -91,6 +109,18 @@ pub(crate) fn options_of<'a>(
     push_on_groups(&mut options, found)?;
     push_on_files(&mut options, found)?;
     push_on_plan(&mut options, found)?;
+    Ok(options)
+}
+
+/// The options that say what is left, and no others, in the order in which `PlanOption` names them.
+pub(crate) fn left_of<'a>(
+    alloc: Global,
+    found: &ArgMatches<'a>,
+) -> Result<Vec<PlanOption<'a>>, AllocError>
+    ensures { IfOk result (λ options. AreLeft (rows_of (found_of found.now)) options.items) }
+{
+    let mut options = Vec::new(alloc);
+    push_left(&mut options, found)?;
     Ok(options)
 }
 
@@ -134,6 +164,14 @@ fn push_on_plan<'a>(
         ≡ map option_words list.old.items ++ on_plan (rows_of (found_of found.now))) }
 {
     push_texts(list, found, "set", |text| PlanOption::Set(text))?;
+    push_left(list, found)
+}
+
+/// Pushes what the words say of which packages are left.
+fn push_left<'a>(list: &mut Vec<PlanOption<'a>>, found: &ArgMatches<'a>) -> Result<(), AllocError>
+    ensures { OnOk result (map option_words list.new.items
+        ≡ map option_words list.old.items ++ on_left (rows_of (found_of found.now))) }
+{
     push_texts(list, found, "only", |name| PlanOption::Only(name))?;
     push_texts(list, found, "except", |name| PlanOption::Except(name))?;
     push_flag(list, found, "no-project", PlanOption::NoProject)

@@ -10,7 +10,7 @@ use crate::base::BASE;
 use crate::form::{CREATED, FILES, FORMAT, JSON, JSON_LINES};
 use crate::help;
 use crate::machine::{ENV, IN, NEEDED_TARGET, SELECT_ENV, TARGET, TARGETS};
-use crate::options::{CHOICES, LEFT};
+use crate::options::{CHOICES, LEFT, LEFT_OF_FILES};
 use clap::Command;
 use std::alloc::{AllocError, Global};
 
@@ -28,6 +28,12 @@ const LOCK: Argument = Argument {
     name: "LOCK",
     kind: Kind::Text,
     help: "The path of the lock, a pylock.toml, or - for standard input",
+};
+
+const LOCKS: Argument = Argument {
+    name: "LOCK",
+    kind: Kind::Texts,
+    help: "The path of each lock, a pylock.toml, or - for standard input",
 };
 
 const SELECT_LOCK: Argument = Argument {
@@ -156,6 +162,12 @@ const PROJECT: Argument = Argument {
     help: "The path of the project, a pyproject.toml, or -",
 };
 
+const MATRIX: Argument = Argument {
+    name: "matrix",
+    kind: Kind::Flag,
+    help: "Judge each target of matrix in place of ENV",
+};
+
 const EXACT: Argument = Argument {
     name: "exact",
     kind: Kind::Flag,
@@ -214,7 +226,13 @@ pub(crate) const SUBCOMMANDS: [Usage; 18] = [
     Usage {
         name: "check",
         about: "Print whether a lock is still a project's",
-        arguments: &[&[LOCK, PROJECT, ENV], &TARGET, &CHOICES, &[STRICT, JSON]],
+        arguments: &[
+            &[LOCK, PROJECT, ENV],
+            &TARGET,
+            &[MATRIX],
+            &CHOICES,
+            &[STRICT, JSON],
+        ],
         reply: help::CHECK,
     },
     Usage {
@@ -226,7 +244,7 @@ pub(crate) const SUBCOMMANDS: [Usage; 18] = [
     Usage {
         name: "files",
         about: "Print every source that a lock names, whatever machine it is for",
-        arguments: &[&[LOCK, FORMAT, BASE, JSON]],
+        arguments: &[&[LOCKS], &LEFT_OF_FILES, &[FORMAT, BASE, JSON]],
         reply: help::FILES,
     },
     Usage {

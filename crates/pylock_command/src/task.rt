@@ -25,13 +25,28 @@ pub enum Output<'a> {
     Bill(BillFormat<'a>),
 }
 
-/// How the sources of a lock are printed.
+/// How the sources of locks are printed.
 #[derive(Clone, Copy, Debug, PartialEq, Eq)]
 pub enum FilesOutput<'a> {
     /// Every source, in a form.
     Shown(Form),
     /// The files in a form that another tool takes, with the URLs on the base that there may be.
     Tool(FileFormat, Option<Base<'a>>),
+}
+
+/// What `files` is asked.
+#[derive(Debug, Drop)]
+pub struct FilesQuestion<'a> {
+    /// The path of the first lock, of which `-` is standard input.
+    pub lock: &'a str,
+    /// The paths of the others, in the order of the words. Of all paths of a question one at most
+    /// is `-`.
+    pub others: Vec<&'a str>,
+    /// What is left out: `Only`, `Except` and `NoProject`, in this order, and each with its texts
+    /// in the order of the words.
+    pub options: Vec<PlanOption<'a>>,
+    /// How the sources are printed.
+    pub output: FilesOutput<'a>,
 }
 
 /// How the answer of `audit` is printed.
@@ -166,6 +181,26 @@ pub struct CheckQuestion<'a> {
     pub form: Form,
 }
 
+/// What `check --matrix` is asked.
+#[derive(Debug, Drop)]
+pub struct CheckMatrixQuestion<'a> {
+    /// The path of the lock, of which `-` is standard input.
+    pub lock: &'a str,
+    /// The words of the Pythons, with `,` between two; none where the lock's are meant.
+    pub pythons: Option<&'a str>,
+    /// The words of the platforms, with `,` between two; none where the common ones are meant.
+    pub platforms: Option<&'a str>,
+    /// The options, which hold for each target.
+    pub options: Vec<PlanOption<'a>>,
+    /// Whether the lock is taken only where nothing is found in it that a strict reading refuses.
+    pub strict: bool,
+    /// The path of the project file, of which `-` is standard input. Of the two paths one at most
+    /// is `-`.
+    pub project: &'a str,
+    /// The form of the answer.
+    pub form: Form,
+}
+
 /// What is asked about a text by itself.
 #[derive(Clone, Copy, Debug)]
 pub enum TextQuestion<'a> {
@@ -199,10 +234,12 @@ pub enum Task<'a> {
     Status(StatusQuestion<'a>),
     /// `check`, with what it is asked.
     Check(CheckQuestion<'a>),
+    /// `check --matrix`, with what it is asked.
+    CheckMatrix(CheckMatrixQuestion<'a>),
     /// `show`, with the path of the lock, and the form of the answer.
     Summary(&'a str, Form),
-    /// `files`, with the path of the lock, and how its sources are printed.
-    Files(&'a str, FilesOutput<'a>),
+    /// `files`, with what it is asked.
+    Files(FilesQuestion<'a>),
     /// `audit`, with what it is asked.
     Audit(AuditQuestion<'a>),
     /// `diff`, with what it is asked.

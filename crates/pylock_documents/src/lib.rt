@@ -35,5 +35,6 @@ pub use head::head_document;
 pub use plan::{fault_detail, picked_document, plan_document};
 pub use reasons::{detail, head_detail, shown_version};
 pub use refused::{refused_document, refused_line_document};
+pub use source::source_members;
 pub use texts::{requirement_document, sdist_document, specifiers_text, wheel_document};
 pub use written::{document, push_document, push_object};

@@ -1,6 +1,6 @@
 //! The object of a source.
 
-ghost use Rattle.std.specs.Prelude.{◌≡◌, IfOk, OnOk, codes, map, option_map};
+ghost use Rattle.std.specs.Prelude.{◌≡◌, ◌++◌, IfOk, OnOk, codes, map, option_map};
 ghost use Rattle.std.specs.Option.{option_copied};
 ghost use Rattle.serde_json.specs.View.{members_view, view as data_of};
 ghost use Rattle.pylock_json.specs.Json.{members_of, object_of, with_row, with_rows};
@@ -14,7 +14,6 @@ use pylock_json::{Json, Object};
 use std::alloc::{AllocError, Global};
 
 /// The object of a source of an entry, which has this number.
-#[tactic(auto, using(crate::proofs::JsonLemmas::put_behind))]
 pub(crate) fn source_object(
     alloc: Global,
     number: u64,
@@ -24,9 +23,24 @@ pub(crate) fn source_object(
     ensures { IfOk result (λ json. data_of json
         ≡ source_data number entry.now (lent_source source.entry)) }
 {
+    Ok(source_members(alloc, number, entry, source)?.into_json())
+}
+
+/// The members that a source has in the document of files: those of its entry, which has this
+/// number, and its own. It takes memory for the object.
+#[tactic(auto, using(crate::proofs::JsonLemmas::put_behind))]
+pub fn source_members(
+    alloc: Global,
+    number: u64,
+    entry: &Entry,
+    source: PickedSource<'_>,
+) -> Result<Object, AllocError>
+    ensures { IfOk result (λ object. members_view object ≡ members_of
+        (entry_rows number entry.now entry.now.version ++ source_rows (lent_source source.entry))) }
+{
     let mut object = entry_object(alloc, number, entry, entry.version())?;
     put_source(alloc, &mut object, source)?;
-    Ok(object.into_json())
+    Ok(object)
 }
 
 /// An object with the number, the name and the version of an entry, which is shown so.

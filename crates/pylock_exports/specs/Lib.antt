@@ -9,3 +9,4 @@ pub mod Requirements
 pub mod Texts
 pub mod Base
 pub mod Inner
+pub mod Given

@@ -3,6 +3,7 @@
 ghost use Rattle.std.specs.Prelude.{◌≡◌, IfOk, None, Some, length, map, option_map, string_bytes};
 ghost use Rattle.pytext.specs.Agreement.{Gives};
 ghost use Rattle.pylock_exports.specs.Base.{elsewhere, first_url, on_base};
+ghost use Rattle.pylock_exports.specs.Given.{given_sources};
 ghost use Rattle.pylock_exports.specs.Inner.{all_lent};
 ghost use Rattle.pylock_exports.specs.Listed.{plan_sources, sources_from};
 ghost use Rattle.pylock_exports.specs.Texts.{first_left, format_text, left_out, shown_left};
@@ -11,7 +12,7 @@ ghost use Rattle.pylock_exports.specs.declared.refusal.ExportError.TheVariants a
 
 use crate::base::{elsewhere, first_url, moved_sources, under_urls};
 use crate::left::{LeftSource, left_of};
-use crate::listed::{Listed, entry_sources, plan_sources};
+use crate::listed::{GivenSource, Listed, entry_sources, given_sources, plan_sources};
 use crate::lists::list_text;
 use crate::refusal::ExportError;
 use crate::requirements::{PlanPart, requirements_text};
@@ -195,5 +196,28 @@ pub fn export_files(
         ≡ first_url (elsewhere (format.Files form) base.entry (sources_from 1 entries.now))) }
 {
     let list = entry_sources(alloc, entries)?;
+    export(alloc, PlanFormat::Files(form), base, list.as_slice())
+}
+
+/// These sources in a form for another tool, whole, or the first refusal in the order of its lines,
+/// which has the number of a source. It takes the memory of [`export_plan`].
+pub fn export_given(
+    alloc: Global,
+    form: FileFormat,
+    base: Option<Base<'_>>,
+    given: &[GivenSource<'_>],
+) -> Result<Exported, ExportError>
+    ensures text { Gives export.Memory (λ e. string_bytes e.text) result
+        (format_text (format.Files form) (on_base base.entry (given_sources given.now))) }
+    ensures left_out { IfOk result (λ e. e.left_out
+        ≡ left_out (format.Files form) (on_base base.entry (given_sources given.now))) }
+    ensures first { IfOk result (λ e. map shown_left e.first_left.items
+        ≡ first_left (format.Files form) (on_base base.entry (given_sources given.now))) }
+    ensures elsewhere { IfOk result (λ e. e.elsewhere
+        ≡ length (elsewhere (format.Files form) base.entry (given_sources given.now))) }
+    ensures first_elsewhere { IfOk result (λ e. option_map string_bytes e.first_elsewhere
+        ≡ first_url (elsewhere (format.Files form) base.entry (given_sources given.now))) }
+{
+    let list = given_sources(alloc, given)?;
     export(alloc, PlanFormat::Files(form), base, list.as_slice())
 }

@@ -34,7 +34,8 @@ mod refusal;
 mod requirements;
 mod source;
 
-pub use export::{Exported, export_files, export_plan};
+pub use export::{Exported, export_files, export_given, export_plan};
 pub use left::LeftSource;
+pub use listed::GivenSource;
 pub use message::{explain_exported, explain_refusal};
 pub use refusal::{ExportError, Field, FieldFault, FormatRefusal, Reason};

@@ -1,17 +1,29 @@
 //! What is exported: the sources of a plan, or all that a lock names, lent by their entries.
 
-ghost use Rattle.std.specs.Prelude.{◌≡◌, ◌++◌, IfOk, OnOk, map, option_map, string_bytes};
+ghost use Rattle.std.specs.Prelude.{◌≡◌, ◌++◌, ◌∷◌, [], IfOk, OnOk, map, option_map, string_bytes};
 ghost use Rattle.std.specs.Option.{option_copied};
 ghost use Rattle.pylock_core.specs.Session.Picks.{lent_named, sources};
 ghost use Rattle.pylock_exports.specs.Inner.{all_lent, written};
+ghost use Rattle.pylock_exports.specs.Given.{given_source, given_sources};
 ghost use Rattle.pylock_exports.specs.Listed.{file_name_of_source, last_of, listed, path_alone};
 ghost use Rattle.pylock_exports.specs.Listed.{path_of, picked_source, plan_sources, sources_from};
 ghost use Rattle.pylock_exports.specs.Listed.{url_of};
 
 use crate::file_names::last_part;
 use crate::source::Source;
-use pylock_core::{Entry, NamedSource, Pick, Session, sources};
+use pylock_core::{Entry, NamedSource, Pick, PickedSource, Session, sources};
 use std::alloc::{AllocError, Global};
+
+/// A source that is to be exported, and the number that a refusal names it by.
+#[derive(Clone, Copy)]
+pub struct GivenSource<'a> {
+    /// The number: mostly that of the entry in its lock.
+    pub number: u64,
+    /// The entry.
+    pub entry: &'a Entry,
+    /// The source, lent by the entry.
+    pub source: PickedSource<'a>,
+}
 
 /// A source of an entry, with the entry's number.
 #[derive(Clone, Copy)]
@@ -103,6 +115,32 @@ fn push_named<'a>(
             source: Source::own(name.source),
         })?;
     }
+    Ok(())
+}
+
+/// The sources that are given, in their order.
+pub(crate) fn given_sources<'a>(
+    alloc: Global,
+    given: &[GivenSource<'a>],
+) -> Result<Vec<Listed<'a>>, AllocError>
+    ensures { IfOk result (λ list. all_lent list.items ≡ given_sources given.now) }
+{
+    let mut list = Vec::with_capacity(alloc, given.len())?;
+    for source in given {
+        push_given(&mut list, source)?;
+    }
+    Ok(list)
+}
+
+fn push_given<'a>(list: &mut Vec<Listed<'a>>, given: &GivenSource<'a>) -> Result<(), AllocError>
+    ensures { OnOk result (all_lent list.new.items
+        ≡ all_lent list.old.items ++ given_source given.now ∷ []) }
+{
+    list.push(Listed {
+        number: given.number,
+        entry: given.entry,
+        source: Source::own(given.source),
+    })?;
     Ok(())
 }
 

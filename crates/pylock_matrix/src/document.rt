@@ -4,9 +4,10 @@ ghost use Rattle.std.specs.Prelude.{◌≡◌, IfOk, OnOk, map};
 ghost use Rattle.serde_json.specs.Data.{number, unsigned};
 ghost use Rattle.serde_json.specs.View.{members_view, view as data_of};
 ghost use Rattle.pylock_json.specs.Json.{members_of, with_rows};
-ghost use Rattle.pylock_matrix.specs.Document.{fault_data, matrix_members, outcome_members};
-ghost use Rattle.pylock_matrix.specs.Document.{row_data};
+ghost use Rattle.pylock_matrix.specs.Document.{cell_members, fault_data, fault_members};
+ghost use Rattle.pylock_matrix.specs.Document.{matrix_members, outcome_members, row_data};
 
+use crate::cell::Cell;
 use crate::outcome::Outcome;
 use crate::row::Row;
 use pylock_core::{FaultCode, fault_word};
@@ -37,10 +38,18 @@ fn row_json(alloc: Global, row: &Row) -> Result<Json, AllocError>
     ensures { IfOk result (λ json. data_of json ≡ row_data row.now) }
 {
     let mut object = Object::new(alloc);
-    object.put_text(alloc, "python", row.cell.python())?;
-    object.put_text(alloc, "platform", row.cell.platform())?;
+    put_cell(alloc, &mut object, &row.cell)?;
     put_outcome(alloc, &mut object, &row.outcome)?;
     Ok(object.into_json())
+}
+
+/// Puts the words of a target: `python` and `platform`. It takes memory for them.
+pub fn put_cell(alloc: Global, object: &mut Object, cell: &Cell) -> Result<(), AllocError>
+    ensures { OnOk result (members_view object.new
+        ≡ with_rows (cell_members cell.now) (members_view object.old)) }
+{
+    object.put_text(alloc, "python", cell.python())?;
+    object.put_text(alloc, "platform", cell.platform())
 }
 
 /// Puts the members of an outcome.
@@ -54,11 +63,23 @@ fn put_outcome(alloc: Global, object: &mut Object, outcome: &Outcome) -> Result<
             object.put_number(alloc, "plan", *count as u64)?;
             object.put(alloc, "built", numbers.into_json())
         }
-        Outcome::Fault { id, code } => {
-            let fault = fault_json(alloc, *id, *code)?;
-            object.put(alloc, "fault", fault)
-        }
+        Outcome::Fault { id, code } => put_fault(alloc, object, *id, *code),
     }
+}
+
+/// Puts a fault: `fault`, an object of the number of the entry, `id`, 0 for the head, and why,
+/// `code`. It takes memory for that object.
+pub fn put_fault(
+    alloc: Global,
+    object: &mut Object,
+    id: u32,
+    code: FaultCode,
+) -> Result<(), AllocError>
+    ensures { OnOk result (members_view object.new
+        ≡ with_rows (fault_members id code) (members_view object.old)) }
+{
+    let fault = fault_json(alloc, id, code)?;
+    object.put(alloc, "fault", fault)
 }
 
 fn numbers_list(alloc: Global, numbers: &[u32]) -> Result<List, AllocError>

@@ -1,16 +1,23 @@
 //! Laws of the definitions alone: each function's contract is a law, and its body is empty.
 
 ghost use Rattle.std.specs.Prelude.{◌≡◌, ◌++◌, [], List, true};
-ghost use Rattle.std.specs.List.{list_all};
+ghost use Rattle.std.specs.List.{All, Contains, list_all};
 ghost use Rattle.pymark_core.specs.Environment.{EnvironmentValue};
 ghost use Rattle.pywheel_core.specs.Tag.{TagValue};
 ghost use Rattle.pywheel_core.specs.Target.Value.{TargetValue};
 ghost use Rattle.pylock_readers.specs.Lock.{LockValue};
-ghost use Rattle.pylock_core.specs.Session.State.{State, after_edits, apply, first};
+ghost use Rattle.pylock_core.specs.Session.State.{NumbersRise, State, after_edits, apply, first};
+ghost use Rattle.pylock_core.specs.Session.Steps.{answer};
+ghost use Rattle.pylock_core.specs.declared.answer.Answer.TheVariants.{Plan};
+ghost use Rattle.pylock_core.specs.declared.answer.Pick.{Pick};
 ghost use Rattle.pylock_core.specs.declared.edit.Edit.{Edit};
+ghost use Rattle.pylock_matrix.specs.Cell.{CellValue};
+ghost use Rattle.pylock_matrix.specs.Files.{files_on};
 ghost use Rattle.pylock_matrix.specs.Moving.{HasVariables, first_on, is_movable, placed, placed_if};
 ghost use Rattle.pylock_matrix.specs.Moving.{settings_in, settings_of};
 ghost use Rattle.pylock_matrix.specs.declared.setting.Setting.{Setting};
+
+use pylock_core::laws::picks_stand;
 
 /// A state on a target has a place for each variable.
 pub fn states_on_targets_have_variables()
@@ -56,3 +63,14 @@ pub fn sessions_move()
         → list_all is_movable edits ≡ true → after_edits edits (first_on target lock)
         ≡ placed_if target (settings_of edits) (after_edits edits (first_on other lock)) }
 {}
+
+/// Each pick of the plan on a target is among the files that the targets take, where the numbers of
+/// the entries increase, as they do in every session.
+pub fn files_have_each_pick()
+    ensures { (settings : List Setting) (state : State) (cells : List CellValue)
+        (cell : CellValue) (plan : List Pick) → NumbersRise state → Contains cells cell
+        → answer (placed cell.target settings state) ≡ Plan plan
+        → All (Contains (files_on settings state cells)) plan }
+{
+    picks_stand();
+}

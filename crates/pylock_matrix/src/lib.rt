@@ -26,10 +26,10 @@ mod text;
 
 pub use cell::{Cell, CellError, cells, words};
 pub use defaults::{default_platforms, default_pythons};
-pub use document::matrix_document;
+pub use document::{matrix_document, put_cell, put_fault};
 pub use files::rows_and_files;
 pub use moving::move_to;
 pub use outcome::{Built, Outcome, outcome_of};
 pub use row::{Row, rows};
 pub use setting::Setting;
-pub use text::{push_row, push_rows};
+pub use text::{push_cell, push_fault, push_row, push_rows};

@@ -4,6 +4,7 @@ ghost use Rattle.std.specs.Prelude.{◌≡◌, string_bytes};
 ghost use Rattle.std.specs.Option.{option_copied};
 
 use pylock_shown::visible_text;
+use pylock_spans::Place;
 use std::alloc::{AllocError, Global};
 use std::marker::Model;
 
@@ -68,14 +69,22 @@ impl Diagnostic {
         })
     }
 
-    /// The same of a file, by the name that was given for it.
+    /// What these words say of a file, by the name that was given for it, and where they point in
+    /// it, if that is known. The line has the place behind the name, as compilers write it.
     pub(crate) fn of_file(
         alloc: Global,
         file: &str,
-        message: &str,
+        place: Option<Place>,
+        words: &str,
     ) -> Result<Diagnostic, AllocError> {
-        let mut diagnostic = Diagnostic::of_message(alloc, message)?;
+        let message = match place {
+            Some(Place { line, column }) => format!(in alloc; "{file}:{line}:{column}: {words}")?,
+            None => format!(in alloc; "{file}: {words}")?,
+        };
+        let mut diagnostic = Diagnostic::of_message(alloc, message.as_str())?;
         diagnostic.file = Some(String::from_str(alloc, file)?);
+        diagnostic.line = place.map(|place| place.line);
+        diagnostic.column = place.map(|place| place.column);
         Ok(diagnostic)
     }
 

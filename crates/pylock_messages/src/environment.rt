@@ -5,7 +5,7 @@ use crate::other_file::other_than_json;
 use crate::platform::{PLATFORMS, meant_platform};
 use crate::shown_value::ShownValue;
 use crate::syntax::{not_text, wrong_json};
-use crate::wrong_part::{Part, PartFault, WrongPart, wrong_part};
+use crate::wrong_part::{Part, PartFault, WrongPart, wrong_in_environment};
 use pylock_readers::{EnvError, read_environment, read_target};
 use pylock_shown::Shown;
 use pymark_core::Var;
@@ -52,7 +52,7 @@ pub fn environment_diagnostic(
         Err(fault) => return not_text(alloc, name, fault.valid_up_to()),
     };
     match Value::from_str(alloc, text) {
-        Ok(value) => wrong_part(alloc, name, wrong_value(&value, refusal)),
+        Ok(value) => wrong_in_environment(alloc, name, wrong_value(&value, refusal)),
         Err(fault) => {
             let diagnostic = wrong_json(alloc, name, text, fault)?;
             saying(alloc, diagnostic, other_than_json(alloc, text)?)

@@ -4,8 +4,9 @@ use crate::diagnostic::{Diagnostic, saying};
 use crate::entry::wrong_entry;
 use crate::other_file::{other_than_lock, other_than_toml};
 use crate::syntax::{not_text, wrong_toml};
-use crate::wrong_part::{Part, WrongPart, wrong_part};
-use pylock_readers::{HeadKey, Lock, LockError};
+use crate::wrong_part::{Part, WrongPart, wrong_in_lock};
+use pylock_readers::{HeadKey, Lock, LockError, MOST_ENTRIES};
+use pylock_spans::Places;
 use pymark_core::{Marker, MarkerError};
 use pyver_core::is_name;
 use std::alloc::{AllocError, Global};
@@ -27,9 +28,11 @@ pub fn lock_message(alloc: Global, name: &str, lock: &[u8]) -> Result<Option<Str
 /// Where the text is wrong that is refused so as a lock; `name` is the name given for the file.
 ///
 /// It names the byte that is no UTF-8, the line and column where the text is no TOML, or the first
-/// wrong key, with its entry and what stands there. Of an empty file, a `pyproject.toml`, a
-/// `uv.lock` and of JSON the line says in place of that what the file is. The text is read again,
-/// and takes the memory of that. No contract says what it tells.
+/// wrong key, with its entry, what stands there, and line and column: those of the key or of the
+/// element of its list, or where the key is missing those of the entry; a key that the head lacks
+/// has none. Of an empty file, a `pyproject.toml`, a `uv.lock` and of JSON the line says what the
+/// file is in place of that. The text is read again, and takes the memory of that, with a place
+/// for each entry. No contract says what it tells.
 pub fn lock_diagnostic(
     alloc: Global,
     name: &str,
@@ -42,7 +45,7 @@ pub fn lock_diagnostic(
     };
     match toml::table_from_str(alloc, text) {
         Ok(document) => {
-            let diagnostic = document_diagnostic(alloc, name, &document, refusal)?;
+            let diagnostic = document_diagnostic(alloc, name, text, &document, refusal)?;
             saying(alloc, diagnostic, other_than_lock(text, &document))
         }
         Err(fault) => {
@@ -55,19 +58,24 @@ pub fn lock_diagnostic(
 fn document_diagnostic(
     alloc: Global,
     name: &str,
+    text: &str,
     document: &Table,
     refusal: &LockError,
 ) -> Result<Option<Diagnostic>, AllocError> {
     match refusal {
-        LockError::TooMany => {
-            let message = format!(in alloc; "{name}: more than 100000 entries")?;
-            Ok(Some(Diagnostic::of_file(alloc, name, message.as_str())?))
-        }
+        LockError::TooMany => Ok(Some(too_many(alloc, name, text)?)),
         LockError::Head(HeadKey::Environments) => {
-            wrong_part(alloc, name, wrong_environments(alloc, document)?)
+            wrong_in_lock(alloc, name, text, wrong_environments(alloc, document)?)
         }
-        _ => wrong_part(alloc, name, wrong_key(document, refusal)),
+        _ => wrong_in_lock(alloc, name, text, wrong_key(document, refusal)),
     }
+}
+
+/// That the lock has too many entries, where the first beyond the limit begins.
+fn too_many(alloc: Global, name: &str, text: &str) -> Result<Diagnostic, AllocError> {
+    let place = Places::of_toml(alloc, text)?.entry(MOST_ENTRIES + 1);
+    let words = format!(in alloc; "more than {MOST_ENTRIES} entries")?;
+    Diagnostic::of_file(alloc, name, place, words.as_str())
 }
 
 /// The key that the lock is refused for, or the first wrong member of its list.

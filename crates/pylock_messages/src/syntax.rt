@@ -2,6 +2,7 @@
 
 use crate::diagnostic::Diagnostic;
 use pylock_shown::Shown;
+use pylock_spans::Place;
 use std::alloc::{AllocError, Global};
 
 /// The byte order mark that a text may begin with, in UTF-8.
@@ -13,8 +14,8 @@ pub(crate) fn not_text(
     name: &str,
     at: usize,
 ) -> Result<Option<Diagnostic>, AllocError> {
-    let message = format!(in alloc; "{name}: byte {at} is not UTF-8 text")?;
-    Ok(Some(Diagnostic::of_file(alloc, name, message.as_str())?))
+    let words = format!(in alloc; "byte {at} is not UTF-8 text")?;
+    Ok(Some(Diagnostic::of_file(alloc, name, None, words.as_str())?))
 }
 
 /// Where the text is no TOML, and what `toml` says of it.
@@ -70,12 +71,13 @@ fn wrong_place(
     column: usize,
     words: &str,
 ) -> Result<Option<Diagnostic>, AllocError> {
-    let words = Shown(words);
-    let message = format!(in alloc; "{name}:{line}:{column}: {words}")?;
-    let mut diagnostic = Diagnostic::of_file(alloc, name, message.as_str())?;
-    diagnostic.line = Some(line as u64);
-    diagnostic.column = Some(column as u64);
-    Ok(Some(diagnostic))
+    let shown = Shown(words);
+    let words = format!(in alloc; "{shown}")?;
+    let place = Place {
+        line: line as u64,
+        column: column as u64,
+    };
+    Ok(Some(Diagnostic::of_file(alloc, name, Some(place), words.as_str())?))
 }
 
 /// What `serde_json` says, without its line and its column.

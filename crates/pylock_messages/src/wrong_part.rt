@@ -3,6 +3,7 @@
 use crate::diagnostic::Diagnostic;
 use crate::shown_value::ShownValue;
 use pylock_shown::{Shown, hidden};
+use pylock_spans::{Place, Places, Step};
 use std::alloc::{AllocError, Global};
 use std::fmt;
 use std::fmt::{Formatter, Write};
@@ -95,43 +96,120 @@ impl<'a> WrongPart<'a> {
         };
         WrongPart::new(part, self.fault)
     }
+
+    /// The position of the entry that the part is, or is in.
+    fn position(&self) -> Option<usize> {
+        match (self.entry, self.part) {
+            (Some(entry), _) => Some(entry.position),
+            (None, Part::Entry(position)) => Some(position),
+            (None, _) => None,
+        }
+    }
+
+    /// Where the part stands in the text of the lock; where its key is missing, where its entry
+    /// does. A key that the head lacks has no place.
+    fn place(&self, alloc: Global, text: &str) -> Result<Option<Place>, AllocError> {
+        let places = Places::of_toml(alloc, text)?;
+        let number = self.position().unwrap_or(0);
+        let path = self.part.path(alloc)?;
+        if path.is_empty() {
+            return Ok(places.entry(number));
+        }
+        match places.key(alloc, number, path.as_slice())? {
+            Some(place) => Ok(Some(place)),
+            None => Ok(places.entry(number)),
+        }
+    }
 }
 
-/// Where the file of this name is wrong, if a part of it is.
-pub(crate) fn wrong_part(
+impl Part {
+    /// The keys and the positions that lead to the part, from the head or from its entry.
+    fn path(self, alloc: Global) -> Result<Vec<Step<'static>>, AllocError> {
+        Ok(match self {
+            Part::Whole | Part::Entry(_) => Vec::new(alloc),
+            Part::Key(key) => Vec::from_array(alloc, [Step::Key(key)])?,
+            Part::Member(key, position) => {
+                Vec::from_array(alloc, [Step::Key(key), Step::Element(position)])?
+            }
+            Part::Inner(outer, key) => Vec::from_array(alloc, [Step::Key(outer), Step::Key(key)])?,
+            Part::Tag(position) => {
+                Vec::from_array(alloc, [Step::Key("tags"), Step::Element(position)])?
+            }
+            Part::Wheel(position) => {
+                Vec::from_array(alloc, [Step::Key("wheels"), Step::Element(position)])?
+            }
+            Part::OfWheel(position, key) => {
+                let wheel = [Step::Key("wheels"), Step::Element(position), Step::Key(key)];
+                Vec::from_array(alloc, wheel)?
+            }
+        })
+    }
+}
+
+/// Where the environment of this name is wrong, if a part of it is.
+pub(crate) fn wrong_in_environment(
     alloc: Global,
     name: &str,
     wrong: Option<WrongPart<'_>>,
 ) -> Result<Option<Diagnostic>, AllocError> {
-    let Some(wrong) = wrong else {
-        return Ok(None);
-    };
-    let message = format!(in alloc; "{name}: {wrong}")?;
-    let mut diagnostic = Diagnostic::of_file(alloc, name, message.as_str())?;
-    diagnostic.key = key_path(alloc, wrong.part)?;
-    match (wrong.entry, wrong.part) {
-        (Some(entry), _) => {
-            diagnostic.entry = Some(entry.position as u64);
-            diagnostic.name = entry.name.map(|name| hidden(alloc, name)).transpose()?;
-        }
-        (None, Part::Entry(position)) => diagnostic.entry = Some(position as u64),
-        _ => {}
+    match wrong {
+        Some(wrong) => Ok(Some(wrong_part(alloc, name, None, &wrong)?)),
+        None => Ok(None),
     }
-    Ok(Some(diagnostic))
+}
+
+/// Where the lock of this name and this text is wrong, if a part of it is.
+pub(crate) fn wrong_in_lock(
+    alloc: Global,
+    name: &str,
+    text: &str,
+    wrong: Option<WrongPart<'_>>,
+) -> Result<Option<Diagnostic>, AllocError> {
+    match wrong {
+        Some(wrong) => {
+            let place = wrong.place(alloc, text)?;
+            Ok(Some(wrong_part(alloc, name, place, &wrong)?))
+        }
+        None => Ok(None),
+    }
+}
+
+/// Where the file of this name has the wrong part.
+fn wrong_part(
+    alloc: Global,
+    name: &str,
+    place: Option<Place>,
+    wrong: &WrongPart<'_>,
+) -> Result<Diagnostic, AllocError> {
+    let words = format!(in alloc; "{wrong}")?;
+    let mut diagnostic = Diagnostic::of_file(alloc, name, place, words.as_str())?;
+    diagnostic.key = key_path(alloc, wrong.part)?;
+    diagnostic.entry = wrong.position().map(|position| position as u64);
+    let entry_name = wrong.entry.and_then(|entry| entry.name);
+    diagnostic.name = entry_name.map(|name| hidden(alloc, name)).transpose()?;
+    Ok(diagnostic)
 }
 
 /// The path of the key that a part is at: keys and positions, joined by a space.
 fn key_path(alloc: Global, part: Part) -> Result<Option<String>, AllocError> {
-    let path = match part {
-        Part::Whole | Part::Entry(_) => return Ok(None),
-        Part::Key(key) => String::from_str(alloc, key)?,
-        Part::Member(key, position) => format!(in alloc; "{key} {position}")?,
-        Part::Inner(outer, key) => format!(in alloc; "{outer} {key}")?,
-        Part::Tag(position) => format!(in alloc; "tags {position}")?,
-        Part::Wheel(position) => format!(in alloc; "wheels {position}")?,
-        Part::OfWheel(position, key) => format!(in alloc; "wheels {position} {key}")?,
-    };
-    Ok(Some(path))
+    let mut written = String::new(alloc);
+    for step in part.path(alloc)?.iter() {
+        if !written.is_empty() {
+            written.push_str(" ")?;
+        }
+        match step {
+            Step::Key(key) => written.push_str(key)?,
+            Step::Element(position) => {
+                let digits = format!(in alloc; "{position}")?;
+                written.push_str(digits.as_str())?;
+            }
+        }
+    }
+    if written.is_empty() {
+        Ok(None)
+    } else {
+        Ok(Some(written))
+    }
 }
 
 impl fmt::Display for WrongPart<'_> {

@@ -12,7 +12,7 @@ use Rattle.pylock_program.specs.declared.file.FileBytes.{FileBytes}
 use Rattle.pylock_program.specs.declared.refusal.Cause.{Cause}
 use Rattle.pylock_program.specs.declared.refusal.Cause.TheVariants as cause
 
-first_left : (files : List FileBytes) (i : ℕ) (d : FileBytes) → i < length files → file_bytes (drop i files) ≡ (get_or files i d).bytes.items ∷ file_bytes (drop (i + 1) files)
+pub first_left : (files : List FileBytes) (i : ℕ) (d : FileBytes) → i < length files → file_bytes (drop i files) ≡ (get_or files i d).bytes.items ∷ file_bytes (drop (i + 1) files)
 first_left files i d within = rw add-one (ap file_bytes (drop-cons files i d within))
 
 module _ (files : List FileBytes) (i : ℕ) (d : FileBytes) (before : List AdvisoryValue) (within : i < length files) where

@@ -7,12 +7,15 @@ use Rattle.pylock_command.specs.declared.task.AuditOutput.{AuditOutput}
 use Rattle.pylock_command.specs.declared.task.AuditQuestion.{AuditQuestion}
 use Rattle.pylock_findings.specs.All.{AreAll}
 use Rattle.pylock_findings.specs.Policy.{PolicyValue, counted}
+use Rattle.pylock_run.specs.Report.Print.{Prints}
 use Rattle.pylock_run.specs.Stream.{SinkValue}
 use Rattle.pylock_run.specs.declared.report.fault.RunFault.{RunFault}
 use Rattle.pylock_run.specs.declared.report.fault.RunFault.TheVariants as fault
 use Rattle.pylock_program.proofs.OpeningLemmas.{other}
-use Rattle.pylock_program.specs.Audit.{AuditValue, EndsUnwritten, PrintsAudit, PrintsCounted, PrintsFound, asked_hosts, asks_environments, audit_form}
+use Rattle.pylock_program.specs.Audit.{AuditValue, EndsUnwritten, PrintsAudit, PrintsCounted, PrintsFound, PrintsLocated, asked_hosts, asks_environments, audit_form, document_report}
+use Rattle.pylock_program.specs.Located.{AreLocated}
 use Rattle.pylock_program.specs.Refusal.{PrintsTelling, is_memory, out_of_memory, refusal_report}
+use Rattle.pylock_program.specs.declared.located.Located.{Located}
 use Rattle.pylock_program.specs.declared.refusal.Cause.{Cause}
 
 -- ---- of all that is found
@@ -36,6 +39,21 @@ module _ (asked : AuditQuestion) (bytes : List ℕ) (opened : AuditValue) (sink 
   none_printed memory same = inr (memory, same)
 
 pub ruleset founds = (found_printed, none_printed)
+
+-- ---- of those that count, at their places
+
+module _ (bytes : List ℕ) (found : List LockFindingValue) (ignored status : ℕ) (sink sink' : SinkValue) (result : Result ℕ RunFault) where
+  abbrev At : Type 0
+  At = PrintsLocated bytes found ignored status sink sink' result ⊎ EndsUnwritten sink sink' result
+
+  pub located_printed : (located : List Located) → AreLocated bytes found located
+      → Prints (document_report ignored status located) sink sink' result → At
+  located_printed located are prints = inl (record { located = located; are_located = are; prints = prints })
+
+  pub no_place : result ≡ Err fault.Memory → sink' ≡ sink → At
+  no_place memory same = inr (memory, same)
+
+pub ruleset locateds = (located_printed, no_place)
 
 -- ---- of what was read
 

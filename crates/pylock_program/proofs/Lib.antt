@@ -6,8 +6,13 @@ pub mod SafeLemmas
 pub mod MatrixLemmas
 pub mod PlanLemmas
 pub mod AuditLemmas
+pub mod EachLemmas
+pub mod LeftLemmas
+pub mod LocatedLemmas
 pub mod CheckLemmas
+pub mod CheckMatrixLemmas
 pub mod PathLemmas
 pub mod SarifLemmas
 pub mod PlainAuditLemmas
 pub mod AdvisoryLemmas
+pub mod FilesLemmas

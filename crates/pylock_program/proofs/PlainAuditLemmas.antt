@@ -7,7 +7,6 @@ use Rattle.pytext.specs.Results.{◌>>=◌}
 use Rattle.pylock_advisories.specs.Advisory.{AdvisoryValue}
 use Rattle.pylock_audit.specs.Audit.{audited_of, findings_of}
 use Rattle.pylock_audit.specs.Finding.{LockFindingValue}
-use Rattle.pylock_command.specs.declared.form.Form.{Form}
 use Rattle.pylock_command.specs.declared.form.Form.TheVariants.{Lines, Json}
 use Rattle.pylock_command.specs.declared.task.AuditOutput.{AuditOutput}
 use Rattle.pylock_command.specs.declared.task.AuditOutput.TheVariants.{Shown, Sarif}
@@ -23,7 +22,7 @@ use Rattle.pylock_run.specs.Stream.{SinkValue}
 use Rattle.pylock_run.specs.declared.report.fault.RunFault.{RunFault}
 use Rattle.pylock_run.specs.declared.report.opening.OpenError.TheVariants as open_error
 use Rattle.pylock_settings.specs.Settings.{no_settings}
-use Rattle.pylock_program.specs.Audit.{AuditValue, PrintsAudit, PrintsCounted, PrintsFound, advisories_from, audit_form, counted_report, opened_audit, policy_in, settings_in, words_of}
+use Rattle.pylock_program.specs.Audit.{AuditValue, PrintsAll, PrintsAudit, PrintsCounted, PrintsFound, PrintsLocated, advisories_from, audit_form, lines_report, opened_audit, policy_in, settings_in, words_of}
 use Rattle.pylock_program.specs.Findings.{findings_report, list_status}
 use Rattle.pylock_program.specs.Refusal.{PrintsTelling, refusal_report, report_or_refusal}
 use Rattle.pylock_program.specs.Reply.{audit_report, read_or_refused}
@@ -48,14 +47,22 @@ each_fails : (found : List LockFindingValue) → status no_policy found ≡ list
 each_fails [] = refl
 each_fails (one ∷ found) = refl
 
-same_report : (form : Form) (found : List LockFindingValue) → counted_report form 0 (list_status found) found ≡ findings_report form found
-same_report Lines found =
+same_report : (found : List LockFindingValue) → lines_report 0 (list_status found) found ≡ findings_report Lines found
+same_report found =
     ap (λ head. record { text = head ++ codes "\n" ++ flat_map finding_line found; status = list_status found })
     (append-nil (codes "findings " ++ decimal (length found)))
-same_report Json found = refl
 
-module _ (asked : AuditQuestion) (form : Form) (lock : List ℕ) (sink sink' : SinkValue) (result : Result ℕ RunFault)
-    (shown : asked.output ≡ Shown form) (environments : asked.environments ≡ false) (hosts : asked.hosts.items ≡ [])
+-- what is printed of a reading where all that is found counts
+abbrev As : AuditQuestion → AuditOutput → List ℕ → SinkValue → SinkValue → Result ℕ RunFault
+    → Result (LockValue × List LockFindingValue) LockError → Type 0
+As asked output lock sink sink' result (Ok audited) =
+    PrintsCounted output asked.lock.now lock no_policy (audited.1, 0) sink sink' result
+As asked output lock sink sink' result (Err error) =
+    PrintsTelling (λ diagnostic. refusal_report (audit_form output) diagnostic
+    (cause.Unopened (Refused (open_error.Lock error)))) sink sink' result
+
+module _ (asked : AuditQuestion) (output : AuditOutput) (lock : List ℕ) (sink sink' : SinkValue) (result : Result ℕ RunFault)
+    (shown : asked.output ≡ output) (environments : asked.environments ≡ false) (hosts : asked.hosts.items ≡ [])
     (ignored : asked.ignored.items ≡ []) (fail_on : asked.fail_on ≡ None) where
   abbrev opened : LockValue × List LockFindingValue → PolicyValue → AuditValue
   opened audited policy = record {
@@ -76,18 +83,15 @@ module _ (asked : AuditQuestion) (form : Form) (lock : List ℕ) (sink sink' : S
   alone audited all are = are.is ∙ with_none _ ∙ with_none _ ∙ ap (merged audited.1) are.are_others ∙ with_none audited.1
 
   of_found : (audited : LockValue × List LockFindingValue) → PrintsFound asked lock (opened audited no_policy) sink sink' result
-      → Prints (findings_report form audited.1) sink sink' result
+      → PrintsCounted output asked.lock.now lock no_policy (audited.1, 0) sink sink' result
   of_found audited found =
       let are : AreAll false [] [] audited.0 audited.1 found.all =
       subst (λ e. AreAll (e || false) [] [] audited.0 audited.1 found.all) environments
       (subst (λ h. AreAll (asked.environments || false) [] (words_of h) audited.0 audited.1 found.all) hosts found.are_all) in
-      let told : PrintsCounted (Shown form) asked.lock.now lock no_policy (found.all, 0) sink sink' result =
-      subst (λ pair. PrintsCounted (Shown form) asked.lock.now lock no_policy pair sink sink' result)
+      subst (λ xs. PrintsCounted output asked.lock.now lock no_policy (xs, 0) sink sink' result) (alone audited found.all are)
+      (subst (λ pair. PrintsCounted output asked.lock.now lock no_policy pair sink sink' result)
       (ap₂ (λ (xs : List LockFindingValue) (n : ℕ). (xs, n)) (all_counted found.all) (none_ignored found.all))
-      (subst (λ o. PrintsCounted o asked.lock.now lock no_policy (counted no_policy found.all) sink sink' result) shown found.prints) in
-      subst (λ report. Prints report sink sink' result) (same_report form audited.1)
-      (subst (λ xs. Prints (counted_report form 0 (list_status xs) xs) sink sink' result) (alone audited found.all are)
-      (subst (λ n. Prints (counted_report form 0 n found.all) sink sink' result) (each_fails found.all) told))
+      (subst (λ o. PrintsCounted o asked.lock.now lock no_policy (counted no_policy found.all) sink sink' result) shown found.prints))
 
   abbrev opened_from : Result (LockValue × List LockFindingValue) LockError → Result AuditValue Cause
   opened_from read =
@@ -95,19 +99,45 @@ module _ (asked : AuditQuestion) (form : Form) (lock : List ℕ) (sink sink' : S
       >>= (λ audited. policy_in asked no_settings >>= (λ policy. Ok (opened audited policy)))
 
   by : (read : Result (LockValue × List LockFindingValue) LockError) → PrintsAudit asked lock (opened_from read) sink sink' result
-      → PrintsTelling (λ diagnostic. report_or_refusal (Some form) diagnostic (findings_report form)
-      (read_or_refused (read >>= (λ audited. Ok audited.1)))) sink sink' result
+      → As asked output lock sink sink' result read
   by (Err error) prints = subst (λ o. PrintsTelling (λ diagnostic. refusal_report (audit_form o) diagnostic
       (cause.Unopened (Refused (open_error.Lock error)))) sink sink' result) shown prints
-  by (Ok audited) prints = (
+  by (Ok audited) prints = of_found audited
+      (subst (λ p. PrintsAudit asked lock (p >>= (λ policy. Ok (opened audited policy))) sink sink' result) no_words prints)
+
+  pub plain_by : PrintsAudit asked lock (opened_audit asked lock [] None) sink sink' result
+      → As asked output lock sink sink' result (audited_of lock)
+  unfolding advisories_from
+  plain_by prints = by (audited_of lock) prints
+
+module _ (asked : AuditQuestion) (lock : List ℕ) (sink sink' : SinkValue) (result : Result ℕ RunFault) where
+  lines_of : (read : Result (LockValue × List LockFindingValue) LockError) → As asked (Shown Lines) lock sink sink' result read
+      → PrintsTelling (λ diagnostic. report_or_refusal (Some Lines) diagnostic (findings_report Lines)
+      (read_or_refused (read >>= (λ audited. Ok audited.1)))) sink sink' result
+  lines_of (Ok audited) prints = (
     None,
-    of_found audited
-        (subst (λ p. PrintsAudit asked lock (p >>= (λ policy. Ok (opened audited policy))) sink sink' result) no_words prints),
+    subst (λ report. Prints report sink sink' result) (same_report audited.1)
+        (subst (λ n. Prints (lines_report 0 n audited.1) sink sink' result) (each_fails audited.1) prints),
   )
+  lines_of (Err error) prints = prints
 
-  pub plain : PrintsAudit asked lock (opened_audit asked lock [] None) sink sink' result
-      → PrintsTelling (λ diagnostic. audit_report form diagnostic lock) sink sink' result
-  unfolding findings_of advisories_from
-  plain prints = by (audited_of lock) prints
+  document_of : (read : Result (LockValue × List LockFindingValue) LockError) → As asked (Shown Json) lock sink sink' result read
+      → PrintsAll lock (read_or_refused (read >>= (λ audited. Ok audited.1))) sink sink' result
+  document_of (Ok audited) prints = subst (λ n. PrintsLocated lock audited.1 0 n sink sink' result) (each_fails audited.1) prints
+  document_of (Err error) prints = prints
 
-pub ruleset plain_audits = (plain)
+  pub plain_lines : asked.output ≡ Shown Lines → asked.environments ≡ false → asked.hosts.items ≡ [] → asked.ignored.items ≡ []
+      → asked.fail_on ≡ None → PrintsAudit asked lock (opened_audit asked lock [] None) sink sink' result
+      → PrintsTelling (λ diagnostic. audit_report Lines diagnostic lock) sink sink' result
+  unfolding findings_of
+  plain_lines shown environments hosts ignored fail_on prints =
+      lines_of (audited_of lock) (plain_by asked (Shown Lines) lock sink sink' result shown environments hosts ignored fail_on prints)
+
+  pub plain_document : asked.output ≡ Shown Json → asked.environments ≡ false → asked.hosts.items ≡ [] → asked.ignored.items ≡ []
+      → asked.fail_on ≡ None → PrintsAudit asked lock (opened_audit asked lock [] None) sink sink' result
+      → PrintsAll lock (read_or_refused (findings_of lock)) sink sink' result
+  unfolding findings_of
+  plain_document shown environments hosts ignored fail_on prints =
+      document_of (audited_of lock) (plain_by asked (Shown Json) lock sink sink' result shown environments hosts ignored fail_on prints)
+
+pub ruleset plain_audits = (plain_lines, plain_document)

@@ -27,11 +27,14 @@ use Rattle.pylock_run.specs.declared.report.fault.RunFault.TheVariants.{Memory}
 use Rattle.pylock_run.specs.declared.report.opening.OpenError.TheVariants as open_error
 use Rattle.pylock_settings.specs.Settings.{SettingsValue, no_settings}
 use Rattle.pylock_settings.specs.Reading.{settings_of}
+use Rattle.pylock_program.specs.Findings.{list_status}
 use Rattle.pylock_program.specs.Refusal.{PrintsTelling, refusal_report}
+use Rattle.pylock_program.specs.Located.{AreLocated, audit_rows}
 use Rattle.pylock_program.specs.Sarif.{PrintsSarif}
-use Rattle.pylock_program.specs.Text.Audit.{audit_rows, audit_text}
+use Rattle.pylock_program.specs.Text.Audit.{audit_text}
 use Rattle.pylock_program.specs.Text.Json.{json_text}
 use Rattle.pylock_program.specs.declared.opening.Unopened.TheVariants.{Refused}
+use Rattle.pylock_program.specs.declared.located.Located.{Located}
 use Rattle.pylock_program.specs.declared.refusal.Cause.{Cause}
 use Rattle.pylock_program.specs.declared.refusal.Cause.TheVariants as cause
 
@@ -109,25 +112,35 @@ opened_audit asked lock files config = do
 
 -- ---- what is printed
 
--- the findings that count, and how many are ignored
-abbrev pub counted_shown : Form → ℕ → List LockFindingValue → List ℕ
-counted_shown Lines ignored found = audit_text ignored found
-counted_shown Json ignored found = json_text (audit_rows ignored found)
+-- the lines of the findings that count, and of how many are ignored
+abbrev pub lines_report : ℕ → ℕ → List LockFindingValue → Report
+lines_report ignored status found =
+    record { text = audit_text ignored found; status = status }
 
-abbrev pub counted_report : Form → ℕ → ℕ → List LockFindingValue → Report
-counted_report form ignored status found =
-    record { text = counted_shown form ignored found; status = status }
+-- the document of these findings at their places
+abbrev pub document_report : ℕ → ℕ → List Located → Report
+document_report ignored status located =
+    record { text = json_text (audit_rows ignored located); status = status }
 
 -- the form of a refusal; where the answer would be for another tool, nothing is printed
 abbrev pub audit_form : AuditOutput → Option Form
 audit_form (Shown form) = Some form
 audit_form Sarif = None
 
+-- the findings have places in these bytes of a lock, with which the document is printed
+pub record PrintsLocated (bytes : List ℕ) (found : List LockFindingValue) (ignored status : ℕ)
+    (sink sink' : SinkValue) (result : Result ℕ RunFault) : Type 0 where
+  pub located : List Located
+  pub are_located : AreLocated bytes found located
+  pub prints : Prints (document_report ignored status located) sink sink' result
+
 -- the findings that count are printed, of the lock at a path, which has these bytes
 abbrev pub PrintsCounted : AuditOutput → List ℕ → List ℕ → PolicyValue
     → List LockFindingValue × ℕ → SinkValue → SinkValue → Result ℕ RunFault → Type 0
-PrintsCounted (Shown form) path bytes policy found sink sink' result =
-    Prints (counted_report form found.1 (status policy found.0) found.0) sink sink' result
+PrintsCounted (Shown Lines) path bytes policy found sink sink' result =
+    Prints (lines_report found.1 (status policy found.0) found.0) sink sink' result
+PrintsCounted (Shown Json) path bytes policy found sink sink' result =
+    PrintsLocated bytes found.0 found.1 (status policy found.0) sink sink' result
 PrintsCounted Sarif path bytes policy found sink sink' result =
     PrintsSarif path bytes found.0 (status policy found.0) sink sink' result
 
@@ -152,3 +165,12 @@ PrintsAudit asked bytes (Ok opened) sink sink' result =
 PrintsAudit asked bytes (Err because) sink sink' result =
     PrintsTelling (λ diagnostic. refusal_report (audit_form asked.output) diagnostic because)
     sink sink' result
+
+-- where nothing is asked besides: the document of all that is found in the lock alone, or of the
+-- refusal
+abbrev pub PrintsAll : List ℕ → Result (List LockFindingValue) Cause → SinkValue → SinkValue
+    → Result ℕ RunFault → Type 0
+PrintsAll bytes (Ok found) sink sink' result =
+    PrintsLocated bytes found 0 (list_status found) sink sink' result
+PrintsAll bytes (Err because) sink sink' result =
+    PrintsTelling (λ diagnostic. refusal_report (Some Json) diagnostic because) sink sink' result

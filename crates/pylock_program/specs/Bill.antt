@@ -11,14 +11,18 @@ use Rattle.pylock_core.specs.declared.answer.Answer.TheVariants.{Plan, Fault}
 use Rattle.pylock_core.specs.declared.answer.Pick.{Pick}
 use Rattle.pylock_documents.specs.Written.{object_text}
 use Rattle.pylock_json.specs.Json.{Row, members_of}
+use Rattle.pylock_metadata.specs.Dependencies.{dependencies_of}
 use Rattle.pylock_run.specs.Report.{Report}
 use Rattle.pylock_run.specs.Text.Plan.{answer_text}
 use Rattle.pylock_program.specs.Refusal.{silence}
 
--- the members of the document; the lock is a part of the namespace alone
+-- the members of the document, with what the lock says of dependencies; the namespace is told from
+-- the whole lock
 abbrev pub bill_rows : BillFormat → List ℕ → State → List Pick → List Row
-bill_rows CycloneDx lock state picks = cyclonedx_rows state picks
-bill_rows (Spdx created) lock state picks = spdx_rows state picks created.now
+bill_rows CycloneDx lock state picks =
+    cyclonedx_rows state picks (dependencies_of lock state picks)
+bill_rows (Spdx created) lock state picks =
+    spdx_rows state picks (dependencies_of lock state picks) created.now
     (namespace_of created.now (answer_text state (Plan picks)) lock)
 
 -- the document of a plan

@@ -10,10 +10,11 @@ use Rattle.pylock_core.specs.declared.answer.Answer.{Answer}
 use Rattle.pylock_core.specs.declared.answer.Answer.TheVariants.{Plan, Fault}
 use Rattle.pylock_core.specs.declared.answer.Pick.{Pick}
 use Rattle.pylock_exports.specs.Base.{on_base}
-use Rattle.pylock_exports.specs.Listed.{plan_sources, sources_from}
+use Rattle.pylock_exports.specs.Given.{given_sources}
+use Rattle.pylock_exports.specs.Listed.{plan_sources}
 use Rattle.pylock_exports.specs.Texts.{format_text}
+use Rattle.pylock_exports.specs.declared.listed.GivenSource.{GivenSource}
 use Rattle.pylock_exports.specs.declared.refusal.ExportError.{ExportError}
-use Rattle.pylock_readers.specs.Entry.{EntryValue}
 use Rattle.pylock_run.specs.Report.{Report}
 use Rattle.pylock_program.specs.Refusal.{silence}
 
@@ -28,10 +29,10 @@ answer_exported form base state (Plan picks) =
     exported 0 (format_text form (on_base base (plan_sources state picks)))
 answer_exported form base state (Fault id code) = silence 1
 
--- every source of a lock
-abbrev pub entries_exported : FileFormat → Option Base → List EntryValue → Report
-entries_exported form base entries =
-    exported 0 (format_text (Files form) (on_base base (sources_from 1 entries)))
+-- these sources
+abbrev pub given_exported : FileFormat → Option Base → List GivenSource → Report
+given_exported form base given =
+    exported 0 (format_text (Files form) (on_base base (given_sources given)))
 
 -- the sources that picks name, their URLs on the base that there may be, with this status
 abbrev pub picks_exported : ℕ → FileFormat → Option Base → State → List Pick → Report

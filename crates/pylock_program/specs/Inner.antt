@@ -2,6 +2,8 @@
 pub mod Answer
 pub mod Audit
 pub mod Check
+pub mod CheckMatrix
 pub mod Chosen
+pub mod Files
+pub mod Located
 pub mod Machine
-pub mod Sarif

@@ -41,9 +41,20 @@ is_left options entry = (not (list_any asks_alone options) || list_any (asks_for
 
 abbrev pub is_left_of : List PlanOption → State → Pick → Bool
 is_left_of options state pick =
-    option_map_or (is_left options) (entry_at pick.id state.entries) false
+    option_map_or (is_left options) (entry_at pick.id state.entries) true
 
 -- the picks that are left, in their order; a fault stays
 abbrev pub left_answer : List PlanOption → State → Answer → Answer
 left_answer options state (Plan picks) = Plan (filter (is_left_of options state) picks)
 left_answer options state (Fault id code) = Fault id code
+
+-- ---- options that leave nothing out
+
+abbrev pub narrows : PlanOption → Bool
+narrows (Only name) = true
+narrows (Except name) = true
+narrows NoProject = true
+narrows option = false
+
+abbrev pub leaves_all : List PlanOption → Bool
+leaves_all options = not (list_any narrows options)

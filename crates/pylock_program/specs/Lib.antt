@@ -3,6 +3,8 @@ pub mod Findings
 pub mod Refusal
 pub mod Opening
 pub mod Reply
+pub mod Each
+pub mod Located
 pub mod Sarif
 pub mod Audit
 pub mod PlanOptions
@@ -13,8 +15,10 @@ pub mod Matrix
 pub mod Bill
 pub mod Status
 pub mod Check
+pub mod CheckMatrix
 pub mod Summary
 pub mod Exports
+pub mod Files
 pub mod Paths
 pub mod Program
 pub mod Inner

@@ -43,10 +43,10 @@ use Rattle.pylock_readers.specs.declared.error.LockError.{LockError}
 use Rattle.pylock_run.specs.Report.{Report}
 use Rattle.pylock_run.specs.declared.report.opening.OpenError.TheVariants.{Environment, Lock}
 use Rattle.pylock_program.specs.Exports.{picks_exported}
+use Rattle.pylock_program.specs.Files.{files_form}
 use Rattle.pylock_program.specs.Opening.{chosen_state, found_by, opened_by}
 use Rattle.pylock_program.specs.PlanOptions.{setting_of}
 use Rattle.pylock_program.specs.Refusal.{out_of_memory, report_or_refusal}
-use Rattle.pylock_program.specs.Reply.{files_form}
 use Rattle.pylock_program.specs.Text.Files.{picked_text}
 use Rattle.pylock_program.specs.Text.Json.{json_text}
 use Rattle.pylock_program.specs.declared.opening.Unopened.{Unopened}

@@ -1,24 +1,28 @@
 -- What the program does with its task, and how it ends.
 use Rattle.std.specs.Borrow.{Bor}
-use Rattle.std.specs.Prelude.{◌≡◌, ◌≢◌, ◌⊎◌, ℕ, Bool, List, codes}
+use Rattle.std.specs.Prelude.{◌≡◌, ◌≢◌, ◌⊎◌, ◌∷◌, ℕ, Bool, List, codes}
 use Rattle.std.specs.Prelude.{Option, Some, None}
 use Rattle.std.specs.Prelude.{Result, Ok, Err}
 use Rattle.std.specs.Result.{result_map_both}
 use Rattle.pylock_command.specs.declared.form.Form.{Form}
 use Rattle.pylock_command.specs.declared.machine.Machine.{Machine}
 use Rattle.pylock_command.specs.declared.task.AuditQuestion.{AuditQuestion}
+use Rattle.pylock_command.specs.declared.task.CheckMatrixQuestion.{CheckMatrixQuestion}
 use Rattle.pylock_command.specs.declared.task.CheckQuestion.{CheckQuestion}
 use Rattle.pylock_command.specs.declared.task.Installation.{Installation}
+use Rattle.pylock_command.specs.declared.task.MatrixQuestion.{MatrixQuestion}
 use Rattle.pylock_command.specs.declared.task.Task.{Task}
 use Rattle.pylock_command.specs.declared.task.Task.TheVariants as task
 use Rattle.pylock_program.specs.Audit.{EndsUnwritten, PrintsAudit, opened_audit, words_of}
 use Rattle.pylock_program.specs.Check.{PrintsCheck, opened_check}
+use Rattle.pylock_program.specs.CheckMatrix.{PrintsTargets, as_matrix, opened_targets}
 use Rattle.pylock_program.specs.Diff.{locks_report, plans_report}
+use Rattle.pylock_program.specs.Files.{question_lists}
 use Rattle.pylock_program.specs.Matrix.{matrix_report}
 use Rattle.pylock_program.specs.Opening.{opened_by}
 use Rattle.pylock_program.specs.Paths.{AreRead, IsMachineRead, IsMaybeRead, IsReadAs}
 use Rattle.pylock_program.specs.Refusal.{PrintsTelling, refusal_report}
-use Rattle.pylock_program.specs.Reply.{files_report, marker_report}
+use Rattle.pylock_program.specs.Reply.{marker_report}
 use Rattle.pylock_program.specs.Reply.{target_report, text_report}
 use Rattle.pylock_program.specs.Show.{question_report, run_shown}
 use Rattle.pylock_program.specs.Status.{status_report}
@@ -171,10 +175,20 @@ Checks asked lock read project source source' sink sink' result =
     ⊎ EndsUnwritten sink sink' end) result
     × (source' ≡ source)
 
+-- the same on each target that `matrix` would show
+abbrev pub ChecksTargets : Form → MatrixQuestion → List ℕ → List ℕ → Outcome
+ChecksTargets form asked lock project source source' sink sink' result =
+    Tells (λ end. PrintsTargets form asked (opened_targets asked lock project) sink sink' end
+    ⊎ EndsUnwritten sink sink' end) result
+    × (source' ≡ source)
+
+abbrev pub ChecksMatrix : CheckMatrixQuestion → List ℕ → List ℕ → Outcome
+ChecksMatrix asked = ChecksTargets asked.form (as_matrix asked)
+
 -- What the program does with each task, by what reads of files may give. `select`, `plan`,
 -- `explain`, `status` and `check` read the lock first, and then the environment; then `status`
 -- reads what is installed, and `check` the project. `audit` reads the lock first, and then the
--- advisories and the settings.
+-- advisories and the settings. `files` reads the locks in the order of the words.
 abbrev pub Performs : Reads → Task → Outcome
 Performs gives task.Bare = Greets
 Performs gives (task.Show question) =
@@ -193,12 +207,15 @@ Performs gives (task.Status asked) =
 Performs gives (task.Check asked) =
     Opens gives asked.opening.lock.now (λ lock. OpensMachine gives asked.opening.machine
     (λ read. Opens gives asked.project.now (Checks asked lock read)))
+Performs gives (task.CheckMatrix asked) =
+    Opens gives asked.lock.now
+    (λ lock. Opens gives asked.project.now (ChecksMatrix asked lock))
 Performs gives (task.Summary lock form) =
     Opens gives lock.now
     (λ bytes. RepliesTelling (λ diagnostic. summary_report form diagnostic bytes))
-Performs gives (task.Files lock output) =
-    Opens gives lock.now
-    (λ bytes. RepliesTelling (λ diagnostic. files_report output diagnostic bytes))
+Performs gives (task.Files asked) =
+    OpensEach gives (asked.lock.now ∷ words_of asked.others.items)
+    (λ files. RepliesTelling (λ diagnostic. question_lists asked diagnostic files))
 Performs gives (task.Audit asked) =
     Opens gives asked.lock.now (λ lock. OpensEach gives (words_of asked.advisories.items)
     (λ files. OpensMaybe gives asked.config (Audits asked lock files)))

@@ -31,6 +31,8 @@ use Rattle.pylock_run.specs.Text.Refusal.{lock_words, refusal_text, side_text}
 use Rattle.pylock_run.specs.declared.report.fault.RunFault.{RunFault}
 use Rattle.pylock_run.specs.declared.report.opening.OpenError.{OpenError}
 use Rattle.pylock_run.specs.declared.report.opening.OpenError.TheVariants as open_error
+use Rattle.pylock_union.specs.Listed.{LockSourceValue}
+use Rattle.pylock_union.specs.Text.{clash_text, clash_words}
 use Rattle.pylock_program.specs.Findings.{findings_shown}
 use Rattle.pylock_program.specs.Text.Json.{option_json, refusal_json, words_json}
 use Rattle.pylock_program.specs.declared.opening.Unopened.{Unopened}
@@ -129,6 +131,13 @@ advisories_printed Lines diagnostic number error =
 advisories_printed Json diagnostic number error =
     words_json (codes "advisories" ∷ advisories_words number error) diagnostic
 
+-- of several locks two files of one name differ: the lock and the entry of the earlier and of the
+-- later, each from 1, and the file
+abbrev pub clash_printed : Form → Option DiagnosticValue → LockSourceValue × LockSourceValue
+    → List ℕ
+clash_printed Lines diagnostic clash = clash_text clash.0 clash.1
+clash_printed Json diagnostic clash = words_json (clash_words clash.0 clash.1) diagnostic
+
 -- an option that is refused: its word, without the dashes, and its text
 abbrev pub option_printed : Form → Option DiagnosticValue → PlanOption → List ℕ
 option_printed Lines diagnostic option =
@@ -144,6 +153,7 @@ cause_printed form diagnostic (cause.Settings error) = settings_printed form dia
 cause_printed form diagnostic (cause.Policy error) = policy_printed form diagnostic error
 cause_printed form diagnostic (cause.Advisories number error) =
     advisories_printed form diagnostic number error
+cause_printed form diagnostic (cause.Clash clash) = clash_printed form diagnostic clash
 cause_printed form diagnostic (cause.Option option) = option_printed form diagnostic option
 
 -- 1: an option is refused

@@ -38,31 +38,24 @@ use Rattle.pywheel_core.specs.Target.Value.{TargetValue}
 use Rattle.pywheel_core.specs.declared.error.TargetError.{TargetError}
 use Rattle.pylock_core.specs.Session.Steps.{fault_code}
 use Rattle.pylock_core.specs.declared.answer.FaultCode.{FaultCode}
-use Rattle.pylock_readers.specs.Lock.Reading.{lock_of}
 use Rattle.pylock_command.specs.declared.form.Form.{Form}
 use Rattle.pylock_command.specs.declared.form.Form.TheVariants.{Lines, Json}
-use Rattle.pylock_readers.specs.Entry.{EntryValue}
 use Rattle.pylock_audit.specs.Audit.{findings_of}
-use Rattle.pylock_documents.specs.Documents.{files_rows}
 use Rattle.pylock_documents.specs.Environment.{target_text}
 use Rattle.pylock_documents.specs.Texts.{requirement_rows, sdist_rows, specifiers_text, wheel_rows}
 use Rattle.pylock_json.specs.Json.{there, truth}
 use Rattle.pylock_messages.specs.Diagnostic.{DiagnosticValue}
 use Rattle.pylock_run.specs.Report.{Report}
 use Rattle.pylock_run.specs.declared.report.opening.OpenError.TheVariants.{Lock, Environment}
-use Rattle.pylock_program.specs.Exports.{entries_exported}
 use Rattle.pylock_program.specs.Findings.{findings_report}
 use Rattle.pylock_program.specs.Opening.{environment_of}
 use Rattle.pylock_program.specs.Refusal.{refused_shown, report_or_refusal}
 use Rattle.pylock_program.specs.Text.Json.{fault_json, json_text}
 use Rattle.pylock_run.specs.Text.Field.{field, line_of}
 use Rattle.pylock_core.specs.Words.{fault_word}
-use Rattle.pylock_program.specs.Text.Files.{files_text}
 use Rattle.pylock_program.specs.declared.opening.Unopened.TheVariants.{Refused}
 use Rattle.pylock_program.specs.declared.refusal.Cause.{Cause}
 use Rattle.pylock_program.specs.declared.refusal.Cause.TheVariants as cause
-use Rattle.pylock_command.specs.declared.task.FilesOutput.{FilesOutput}
-use Rattle.pylock_command.specs.declared.task.FilesOutput.TheVariants as output
 use Rattle.pylock_command.specs.declared.task.TextQuestion.{TextQuestion}
 use Rattle.pylock_command.specs.declared.task.TextQuestion.TheVariants as question
 use Rattle.pylock_readers.specs.declared.error.LockError.{LockError}
@@ -273,25 +266,6 @@ target_report diagnostic python platform =
 abbrev pub read_or_refused : {V : Type 0} → Result V LockError → Result V Cause
 read_or_refused read =
     result_map_both (λ v. v) (λ error. cause.Unopened (Refused (Lock error))) read
-
--- `files LOCK`: every source that the lock names
-abbrev pub files_shown : Form → List EntryValue → List ℕ
-files_shown Lines entries = files_text entries
-files_shown Json entries = json_text (files_rows entries)
-
-abbrev pub entries_report : FilesOutput → List EntryValue → Report
-entries_report (output.Shown form) entries = answered (files_shown form entries)
-entries_report (output.Tool format base) entries = entries_exported format base entries
-
--- the form in which a refusal is printed; none where the sources would be for another tool
-abbrev pub files_form : FilesOutput → Option Form
-files_form (output.Shown form) = Some form
-files_form (output.Tool format base) = None
-
-abbrev pub files_report : FilesOutput → Option DiagnosticValue → List ℕ → Report
-files_report output diagnostic bytes =
-    report_or_refusal (files_form output) diagnostic (λ lock. entries_report output lock.entries)
-    (read_or_refused (lock_of bytes))
 
 -- `audit LOCK`: what a careful reader would want to be told; status 1 where that is something
 abbrev pub audit_report : Form → Option DiagnosticValue → List ℕ → Report

@@ -1,8 +1,6 @@
 -- What `audit` prints as a SARIF document.
-use Rattle.std.specs.Prelude.{◌≡◌, ℕ, List, [], ◌∷◌, IfSome, Result, option_map}
-use Rattle.std.specs.Prelude.{string_bytes}
+use Rattle.std.specs.Prelude.{◌≡◌, ℕ, List, Result, option_map, string_bytes}
 use Rattle.std.specs.Option.{option_copied}
-use Rattle.toml.specs.Parse.{skip_bom}
 use Rattle.pylock_audit.specs.Finding.{LockFindingValue}
 use Rattle.pylock_audit.specs.Words.{finding_word}
 use Rattle.pylock_documents.specs.Written.{object_text}
@@ -15,27 +13,21 @@ use Rattle.pylock_sarif.specs.Document.{sarif_rows}
 use Rattle.pylock_sarif.specs.declared.run.Run.{Run}
 use Rattle.pylock_sarif.specs.declared.run.SarifResult.{SarifResult}
 use Rattle.pylock_sarif.specs.declared.run.TextPlace.{TextPlace}
-use Rattle.pylock_spans.specs.Places.{IsPlaceAt}
+use Rattle.pylock_spans.specs.declared.place.Place.{Place}
+use Rattle.pylock_program.specs.Each.{AreEach}
+use Rattle.pylock_program.specs.Located.{AreLocated}
+use Rattle.pylock_program.specs.declared.located.Located.{Located}
 
--- the line and the column of a byte of the text
-abbrev pub IsPlaceIn : List ℕ → TextPlace → Type 0
-IsPlaceIn text place =
-    (at : ℕ) × IsPlaceAt text at (record { line = place.line; column = place.column })
+abbrev pub text_place : Place → TextPlace
+text_place place = record { line = place.line; column = place.column }
 
--- the result that tells a finding, at a place of the text of the lock, if it has one
-pub record IsResult (text : List ℕ) (one : LockFindingValue) (told : SarifResult) : Type 0 where
-  pub rule : told.rule.now ≡ finding_word one.finding.kind
-  pub number : told.number ≡ one.number
-  pub name : option_copied told.name ≡ one.name
-  pub detail : option_map string_bytes told.detail ≡ one.finding.detail
-  pub place : IfSome told.place (IsPlaceIn (skip_bom text))
-
--- a result for each finding, in order
-abbrev pub AreResults : List ℕ → List LockFindingValue → List SarifResult → Type 0
-AreResults text [] [] = Unit {0}
-AreResults text (one ∷ found) (told ∷ results) =
-    IsResult text one told × AreResults text found results
-AreResults text _ _ = ⊥
+-- the result that tells a finding, at its place, if it has one
+pub record IsResult (located : Located) (told : SarifResult) : Type 0 where
+  pub rule : told.rule.now ≡ finding_word located.finding.now.finding.kind
+  pub number : told.number ≡ located.finding.now.number
+  pub name : option_copied told.name ≡ located.finding.now.name
+  pub detail : option_map string_bytes told.detail ≡ located.finding.now.finding.detail
+  pub place : told.place ≡ option_map text_place located.place
 
 -- the document of a run
 abbrev pub run_report : Run → ℕ → Report
@@ -44,10 +36,13 @@ run_report run status = record {
   status = status;
 }
 
--- there is a run over the lock, of which the document is printed
+-- there is a run over the lock, with a result for each finding in order, of which the document is
+-- printed
 pub record PrintsSarif (path bytes : List ℕ) (found : List LockFindingValue) (status : ℕ)
     (sink sink' : SinkValue) (result : Result ℕ RunFault) : Type 0 where
   pub run : Run
   pub lock : run.lock.now ≡ path
-  pub results : AreResults bytes found run.results.now
+  pub located : List Located
+  pub are_located : AreLocated bytes found located
+  pub results : AreEach IsResult located run.results.now
   pub prints : Prints (run_report run status) sink sink' result

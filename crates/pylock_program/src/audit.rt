@@ -5,7 +5,8 @@ ghost use Rattle.std.specs.Option.{option_copied};
 ghost use Rattle.pylock_findings.specs.All.{AreAll};
 ghost use Rattle.pylock_findings.specs.Policy.{counted};
 ghost use Rattle.pylock_program.specs.Audit.{EndsUnwritten, PrintsAudit, PrintsCounted};
-ghost use Rattle.pylock_program.specs.Audit.{PrintsFound, advisories_from, asked_fail_on};
+ghost use Rattle.pylock_program.specs.Audit.{PrintsFound, PrintsLocated, advisories_from};
+ghost use Rattle.pylock_program.specs.Audit.{asked_fail_on};
 ghost use Rattle.pylock_program.specs.Audit.{asked_hosts, asked_ignored, asks_environments};
 ghost use Rattle.pylock_program.specs.Audit.{audit_form};
 ghost use Rattle.pylock_program.specs.Audit.{audited_in, opened_audit, policy_in, settings_in};
@@ -17,9 +18,10 @@ ghost use Rattle.pylock_program.specs.Refusal.{GivesOr};
 use crate::failure::{Failure, program_end};
 use crate::file::{FileBytes, read_bytes, read_each, read_maybe};
 use crate::host::{Host, Outputs};
+use crate::located::with_places;
 use crate::refusal::{Refusal, write_refusal};
 use crate::sarif::write_sarif;
-use crate::text::audit::write_counted;
+use crate::text::audit::{write_document, write_lines};
 use pylock_advisories::{Advisories, AdvisoriesError};
 use pylock_audit::{LockFinding, read_audited};
 use pylock_command::{AuditOutput, AuditQuestion, Form};
@@ -301,7 +303,28 @@ fn write_counted_as<W: Sink>(
     let (found, ignored) = (&found.0, found.1);
     let status = policy.status(found);
     match asked.output {
-        AuditOutput::Shown(form) => write_counted(alloc, form, found, ignored, status, writer),
+        AuditOutput::Shown(Form::Lines) => write_lines(alloc, found, ignored, status, writer),
+        AuditOutput::Shown(Form::Json) => {
+            write_located(alloc, bytes, (found, ignored), status, writer)
+        }
         AuditOutput::Sarif => write_sarif(alloc, (asked.lock, bytes), found, status, writer),
     }
+}
+
+/// Writes the document of the findings that count, each at its place in the lock of these bytes.
+#[tactic(auto, using(crate::proofs::AuditLemmas::locateds))]
+fn write_located<W: Sink>(
+    alloc: Global,
+    bytes: &[u8],
+    counted: (&[LockFinding], usize),
+    status: u8,
+    writer: &mut W,
+) -> Result<u8, RunFault>
+    ensures { PrintsLocated bytes.now counted.entry.0.now counted.entry.1 status
+        (W.value writer.old) (W.value writer.new) result
+        ⊎ EndsUnwritten (W.value writer.old) (W.value writer.new) result }
+{
+    let (found, ignored) = counted;
+    let located = with_places(alloc, bytes, found)?;
+    write_document(alloc, &located, ignored, status, writer)
 }

@@ -15,6 +15,7 @@ use pylock_command::BillFormat;
 use pylock_core::{Answer, Plan, Session};
 use pylock_documents::push_object;
 use pylock_json::Object;
+use pylock_metadata::dependencies;
 use pylock_run::{RunFault, Sink, print, push_answer};
 use std::alloc::{AllocError, Global};
 
@@ -55,13 +56,15 @@ fn bill_document(
         ≡ members_of (bill_rows format.entry lock.now session.now.state answered.entry.1.now)) }
 {
     let (answer, plan) = answered;
+    let dependencies = dependencies(alloc, lock, session, plan)?;
     match format {
-        BillFormat::CycloneDx => cyclonedx_document(alloc, session, plan),
+        BillFormat::CycloneDx => cyclonedx_document(alloc, session, plan, &dependencies),
         BillFormat::Spdx(created) => {
             let mut shown = Vec::new(alloc);
             push_answer(&mut shown, session, answer)?;
             let namespace = namespace_of(alloc, created, &shown, lock)?;
-            spdx_document(alloc, session, plan, created, namespace.as_str())
+            let namespace = namespace.as_str();
+            spdx_document(alloc, session, plan, &dependencies, created, namespace)
         }
     }
 }

@@ -11,6 +11,8 @@ ghost use Rattle.pylock_program.specs.Program.{Checks, Opens, OpensMachine};
 ghost use Rattle.pylock_program.specs.Refusal.{GivesOr};
 ghost use Rattle.pylock_run.specs.Report.Print.{Prints};
 
+mod each;
+
 use crate::diagnostics::fault::tell_fault;
 use crate::diagnostics::options::tell_options;
 use crate::failure::{Failure, program_end};
@@ -19,6 +21,7 @@ use crate::host::{Host, Outputs};
 use crate::opening::{choose, open_inputs};
 use crate::refusal::{Refusal, write_refusal};
 use crate::show::write_view;
+pub(crate) use each::check_targets;
 use pylock_check::{
     Difference, Project, ProjectError, differences, differences_document, head_differences,
     push_differences,
@@ -102,7 +105,8 @@ fn open_check<'a>(
     Ok((session, project))
 }
 
-fn read_project(alloc: Global, file: &FileBytes<'_>) -> Result<Project, Refusal<'static>>
+/// The project in a file.
+pub(crate) fn read_project(alloc: Global, file: &FileBytes<'_>) -> Result<Project, Refusal<'static>>
     ensures { GivesOr (λ project. project) result (project_in file.now.bytes.items) }
 {
     match Project::read(alloc, &file.bytes) {

@@ -4,6 +4,7 @@ pub(crate) mod audit;
 pub(crate) mod expected;
 pub(crate) mod export;
 pub(crate) mod fault;
+pub(crate) mod files;
 pub(crate) mod left;
 pub(crate) mod matrix;
 pub(crate) mod options;

@@ -5,7 +5,7 @@ ghost use Rattle.std.specs.Prelude.{◌≡◌, List, ℕ, Result, string_bytes};
 ghost use Rattle.pytext.specs.Agreement.{Gives};
 ghost use Rattle.pylock_exports.specs.declared.refusal.ExportError.{ExportError as NoForm};
 ghost use Rattle.pylock_exports.specs.declared.refusal.ExportError.TheVariants as no_form;
-ghost use Rattle.pylock_program.specs.Exports.{answer_exported, entries_exported, exported};
+ghost use Rattle.pylock_program.specs.Exports.{answer_exported, exported, given_exported};
 ghost use Rattle.pylock_program.specs.Exports.{picks_exported};
 ghost use Rattle.pylock_program.specs.Refusal.{silence};
 ghost use Rattle.pylock_run.specs.Report.Print.{Prints};
@@ -14,8 +14,8 @@ use crate::diagnostics::export::{tell_elsewhere, tell_exported, tell_refused_exp
 use crate::diagnostics::tell_bytes;
 use crate::host::Outputs;
 use pylock_command::{Base, FileFormat, PlanFormat};
-use pylock_core::{Answer, Entry, Plan, Session};
-use pylock_exports::{ExportError, Exported, export_files, export_plan};
+use pylock_core::{Answer, Plan, Session};
+use pylock_exports::{ExportError, Exported, GivenSource, export_given, export_plan};
 use pylock_run::{RunFault, Sink, print, push_answer};
 use std::alloc::Global;
 
@@ -60,23 +60,23 @@ pub(crate) fn write_fault<W: Sink, N: Sink>(
     print(&[], 1, &mut outputs.writer)
 }
 
-/// Writes every source of the entries in a form, as [`write_plan_export`] does a plan.
-pub(crate) fn write_files_export<W: Sink, N: Sink>(
+/// Writes these sources in a form, as [`write_plan_export`] does a plan.
+pub(crate) fn write_sources_export<W: Sink, N: Sink>(
     alloc: Global,
-    form: FileFormat,
-    base: Option<Base<'_>>,
-    entries: &[Entry],
+    asked: (FileFormat, Option<Base<'_>>),
+    given: &[GivenSource<'_>],
     outputs: &mut Outputs<W, N>,
 ) -> Result<u8, RunFault>
-    ensures { Prints (entries_exported form base.entry entries.now)
+    ensures { Prints (given_exported asked.entry.0 asked.entry.1 given.now)
         (W.value outputs.old.writer) (W.value outputs.new.writer) result }
 {
-    let made = export_files(alloc, form, base, entries);
-    let name = refused_number(&made).and_then(|number| name_among(entries, number));
+    let (format, base) = asked;
+    let made = export_given(alloc, format, base, given);
+    let name = refused_number(&made).and_then(|number| name_among(given, number));
     tell_made(
         alloc,
         &mut outputs.diagnostics,
-        PlanFormat::Files(form),
+        PlanFormat::Files(format),
         name,
         &made,
     );
@@ -137,10 +137,20 @@ fn name_in(session: &Session, number: u64) -> Option<&str> {
     Some(session.entry(number)?.name())
 }
 
-/// The name of the entry of this number, the first of which has the number 1.
-fn name_among(entries: &[Entry], number: u64) -> Option<&str> {
-    let place = usize::try_from(number).ok()?.checked_sub(1)?;
-    Some(entries.get(place)?.name())
+/// The name of the entries of this number, where all have the same: of several locks each may have
+/// one.
+fn name_among<'a>(given: &[GivenSource<'a>], number: u64) -> Option<&'a str> {
+    let mut name = None;
+    for source in given {
+        if source.number == number {
+            let its = source.entry.name();
+            match name {
+                Some(other) if other != its => return None,
+                _ => name = Some(its),
+            }
+        }
+    }
+    name
 }
 
 /// Tells what a form leaves out, or why it can't hold what is asked for.

@@ -2,23 +2,27 @@
 
 ghost use Rattle.std.specs.Prelude.{◌≡◌, ◌≢◌, ℕ, List, [], None, Ok, Option, Result, true, false};
 ghost use Rattle.std.specs.List.{All};
+ghost use Rattle.pylock_audit.specs.Audit.{findings_of};
 ghost use Rattle.pylock_audit.specs.Strict.{strict_findings_of};
-ghost use Rattle.pylock_command.specs.declared.form.Form.{Form};
+ghost use Rattle.pylock_command.specs.declared.form.Form.TheVariants.{Json, Lines};
+ghost use Rattle.pylock_command.specs.declared.option.PlanOption.{PlanOption};
 ghost use Rattle.pylock_command.specs.declared.task.AuditOutput.TheVariants.{Shown};
 ghost use Rattle.pylock_command.specs.declared.task.AuditQuestion.{AuditQuestion};
 ghost use Rattle.pylock_command.specs.declared.task.MatrixQuestion.{MatrixQuestion};
 ghost use Rattle.pylock_command.specs.declared.task.Question.{Question as QuestionValue};
 ghost use Rattle.pylock_core.specs.Session.State.{State};
+ghost use Rattle.pylock_core.specs.declared.answer.Answer.{Answer};
 ghost use Rattle.pylock_matrix.specs.Cell.{CellValue};
 ghost use Rattle.pylock_matrix.specs.Moving.{placed};
 ghost use Rattle.pylock_readers.specs.Environment.{EnvironmentRead};
 ghost use Rattle.pylock_messages.specs.Diagnostic.{DiagnosticValue};
 ghost use Rattle.pylock_run.specs.Stream.{SinkValue};
 ghost use Rattle.pylock_run.specs.declared.report.fault.RunFault.{RunFault};
-ghost use Rattle.pylock_program.specs.Audit.{PrintsAudit, opened_audit};
+ghost use Rattle.pylock_program.specs.Audit.{PrintsAll, PrintsAudit, opened_audit};
+ghost use Rattle.pylock_program.specs.Left.{leaves_all, left_answer};
 ghost use Rattle.pylock_program.specs.Matrix.{asked_settings, opened_matrix, plan_state};
 ghost use Rattle.pylock_program.specs.Refusal.{PrintsTelling};
-ghost use Rattle.pylock_program.specs.Reply.{audit_report};
+ghost use Rattle.pylock_program.specs.Reply.{audit_report, read_or_refused};
 ghost use Rattle.pylock_program.specs.Show.{question_report, with_strict};
 
 /// A strict plan is the plan: where nothing is found in a lock that a strict reading refuses,
@@ -38,16 +42,30 @@ pub fn strict_plan()
         ≡ question_report (with_strict false question) diagnostic lock environment }
 {}
 
-/// Where nothing is asked besides, `audit` prints what [`push_audit`](crate::push_audit) pushes:
-/// all that is found in the lock alone counts, and the status is 1 where that is something.
+/// Where nothing is asked besides, all that is found in the lock alone counts, and the status is 1
+/// where that is something. The lines of `audit` are what [`push_audit`](crate::push_audit) pushes,
+/// and its document has each finding of that at its place besides.
 #[tactic(auto, using(crate::proofs::PlainAuditLemmas::plain_audits))]
 pub fn plain_audit()
-    ensures { (asked : AuditQuestion) (form : Form) (lock : List ℕ) (sink sink' : SinkValue)
+    ensures lines { (asked : AuditQuestion) (lock : List ℕ) (sink sink' : SinkValue)
         (result : Result ℕ RunFault)
-        → asked.output ≡ Shown form → asked.environments ≡ false → asked.hosts.items ≡ []
+        → asked.output ≡ Shown Lines → asked.environments ≡ false → asked.hosts.items ≡ []
         → asked.ignored.items ≡ [] → asked.fail_on ≡ None
         → PrintsAudit asked lock (opened_audit asked lock [] None) sink sink' result
-        → PrintsTelling (λ diagnostic. audit_report form diagnostic lock) sink sink' result }
+        → PrintsTelling (λ diagnostic. audit_report Lines diagnostic lock) sink sink' result }
+    ensures document { (asked : AuditQuestion) (lock : List ℕ) (sink sink' : SinkValue)
+        (result : Result ℕ RunFault)
+        → asked.output ≡ Shown Json → asked.environments ≡ false → asked.hosts.items ≡ []
+        → asked.ignored.items ≡ [] → asked.fail_on ≡ None
+        → PrintsAudit asked lock (opened_audit asked lock [] None) sink sink' result
+        → PrintsAll lock (read_or_refused (findings_of lock)) sink sink' result }
+{}
+
+/// Where no option leaves anything out, `plan` prints its answer whole.
+#[tactic(auto, using(crate::proofs::LeftLemmas::all_left))]
+pub fn whole_plan()
+    ensures { (options : List PlanOption) (state : State) (answer : Answer)
+        → leaves_all options ≡ true → left_answer options state answer ≡ answer }
 {}
 
 /// Each row is what `plan` answers: moved to a target, the session of `matrix` is in the state that

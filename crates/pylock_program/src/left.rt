@@ -42,12 +42,12 @@ fn is_left_of(options: &[PlanOption<'_>], session: &Session, pick: Pick) -> bool
 {
     match session.entry(pick.id) {
         Some(entry) => is_left(options, entry),
-        None => false,
+        None => true,
     }
 }
 
 /// Whether the options leave the entry in a plan.
-fn is_left(options: &[PlanOption<'_>], entry: &Entry) -> bool
+pub(crate) fn is_left(options: &[PlanOption<'_>], entry: &Entry) -> bool
     ensures { result ≡ is_left options.now entry.now }
 {
     (!any_asks_alone(options) || any_asks_for(options, entry)) && !any_leaves_out(options, entry)
@@ -96,7 +96,8 @@ fn leaves_out(option: PlanOption<'_>, entry: &Entry) -> bool
     }
 }
 
-fn is_named(name: &str, entry: &Entry) -> bool
+/// Whether the entry has this name.
+pub(crate) fn is_named(name: &str, entry: &Entry) -> bool
     ensures { result ≡ is_named name.now entry.now }
 {
     is_same_name(name, entry.name())

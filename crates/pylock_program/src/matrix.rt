@@ -15,12 +15,12 @@ mod picked;
 use crate::diagnostics::matrix::tell_unmet;
 use crate::failure::{Failure, program_end};
 use crate::file::{FileBytes, MachineInput, read_bytes};
+use crate::files::files_form;
 use crate::host::{Host, Outputs};
 use crate::matrix::picked::write_picked;
 use crate::opening::{Unopened, choose};
 use crate::options::setting_of;
 use crate::refusal::{Cause, Refusal, write_refusal};
-use crate::reply::files_form;
 use pylock_audit::{StrictError, read_strict};
 use pylock_command::{Form, MatrixOutput, MatrixQuestion, PlanOption, TargetWords};
 use pylock_core::{EnvError, Lock, LockError, Session};
@@ -82,7 +82,7 @@ fn write_matrix<W: Sink, N: Sink>(
 }
 
 /// The session on the first target, after the options, and all targets.
-fn open_matrix<'a>(
+pub(crate) fn open_matrix<'a>(
     alloc: Global,
     asked: &MatrixQuestion<'a>,
     file: &FileBytes<'_>,
@@ -240,7 +240,10 @@ fn write_rows<W: Sink>(
 }
 
 /// What the options set, in order.
-fn settings_of(alloc: Global, options: &[PlanOption<'_>]) -> Result<Vec<Setting>, AllocError>
+pub(crate) fn settings_of(
+    alloc: Global,
+    options: &[PlanOption<'_>],
+) -> Result<Vec<Setting>, AllocError>
     ensures { IfOk result (λ settings. settings.items ≡ asked_settings options.now) }
 {
     let mut settings = Vec::new(alloc);

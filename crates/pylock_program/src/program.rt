@@ -7,13 +7,14 @@ ghost use Rattle.pylock_program.specs.declared.failure.Failure.TheVariants as fa
 ghost use Rattle.pylock_run.specs.Report.Print.{Prints};
 
 use crate::audit::audit_lock;
-use crate::check::check_project;
+use crate::check::{check_project, check_targets};
 use crate::diagnostics::tell_bytes;
 use crate::diff::compare;
 use crate::failure::{Failure, program_end};
+use crate::files::list_files;
 use crate::host::{Host, Outputs};
 use crate::matrix::show_matrix;
-use crate::reply::{answer_text, judge_marker, list_files, print_target};
+use crate::reply::{answer_text, judge_marker, print_target};
 use crate::select::run_select;
 use crate::show::answer_question;
 use crate::status::show_status;
@@ -57,8 +58,9 @@ pub fn perform<F: Files, R: Source, W: Sink, N: Sink>(
         Task::Matrix(asked) => show_matrix(alloc, &asked, host),
         Task::Status(asked) => show_status(alloc, &asked, host),
         Task::Check(asked) => check_project(alloc, &asked, host),
+        Task::CheckMatrix(asked) => check_targets(alloc, asked, host),
         Task::Summary(lock, form) => show_summary(alloc, lock, form, host),
-        Task::Files(lock, output) => list_files(alloc, lock, output, host),
+        Task::Files(asked) => list_files(alloc, &asked, host),
         Task::Audit(asked) => audit_lock(alloc, &asked, host),
         Task::Diff(asked) => compare(alloc, &asked, host),
         Task::Marker(text, machine, form) => judge_marker(alloc, text, machine, form, host),

@@ -5,7 +5,8 @@ ghost use Rattle.std.specs.Option.{option_copied};
 ghost use Rattle.pylock_program.specs.Findings.{findings_shown};
 ghost use Rattle.pylock_program.specs.Refusal.{PrintsTelling, cause_status, cause_printed};
 ghost use Rattle.pylock_program.specs.Refusal.{is_memory, option_printed, out_of_memory};
-ghost use Rattle.pylock_program.specs.Refusal.{cause_report, refusal_report, silence};
+ghost use Rattle.pylock_program.specs.Refusal.{cause_report, clash_printed, refusal_report};
+ghost use Rattle.pylock_program.specs.Refusal.{silence};
 ghost use Rattle.pylock_program.specs.Refusal.{refusal_printed, side_printed, side_word};
 ghost use Rattle.pylock_program.specs.Refusal.{unopened_printed};
 ghost use Rattle.pylock_program.specs.declared.refusal.Cause.TheVariants as cause;
@@ -15,6 +16,7 @@ ghost use Rattle.pylock_run.specs.declared.report.fault.RunFault.TheVariants as 
 ghost use Rattle.pylock_run.specs.declared.report.opening.OpenError.TheVariants as open_error;
 
 use crate::diagnostics::audit::{advisories_diagnostic, policy_diagnostic, settings_diagnostic};
+use crate::diagnostics::files::{clash_diagnostic, unnamed_diagnostic};
 use crate::diagnostics::refusal::{
     environment_refusal, findings_diagnostic, installed_diagnostic, project_diagnostic,
 };
@@ -26,7 +28,7 @@ use crate::options::option_words;
 use crate::text::advisories::push_advisories_refusal;
 use crate::text::audit::push_findings;
 use crate::text::installed::push_installed_refusal;
-use crate::text::json::{push_option_json, push_refusal_json, push_words};
+use crate::text::json::{push_clash_json, push_option_json, push_refusal_json, push_words};
 use crate::text::placed::{push_policy_refusal, push_project_refusal, push_settings_refusal};
 use pylock_advisories::AdvisoriesError;
 use pylock_audit::{Findings, LockFinding, findings_document};
@@ -41,6 +43,7 @@ use pylock_run::{
     OpenError, RunFault, Sink, lock_words, print, push_next_field, push_refusal, push_side_error,
 };
 use pylock_settings::SettingsError;
+use pylock_union::{Clash, push_clash};
 use std::alloc::{AllocError, Global};
 
 /// The status where an option is refused.
@@ -86,6 +89,8 @@ pub(crate) enum Cause<'a> {
     Policy(PolicyError),
     /// The file of advisories of this number, from 1, is refused.
     Advisories(usize, AdvisoriesError),
+    /// Of several locks two files of one name differ.
+    Clash(Clash<'a>),
     /// An option is refused.
     Option(PlanOption<'a>),
 }
@@ -229,6 +234,24 @@ impl<'a> Refusal<'a> {
         Refusal { cause, diagnostic }
     }
 
+    /// Of several locks two files of one name differ.
+    pub(crate) fn of_clash(alloc: Global, clash: Clash<'a>) -> Refusal<'a>
+        ensures { result.cause ≡ cause.Clash clash.entry }
+    {
+        let diagnostic = clash_diagnostic(alloc, &clash);
+        let cause = Cause::Clash(clash);
+        Refusal { cause, diagnostic }
+    }
+
+    /// An option names no entry of any lock.
+    pub(crate) fn of_unnamed(alloc: Global, option: PlanOption<'a>) -> Refusal<'a>
+        ensures { result.cause ≡ cause.Option option.entry }
+    {
+        let diagnostic = unnamed_diagnostic(alloc, option);
+        let cause = Cause::Option(option);
+        Refusal { cause, diagnostic }
+    }
+
     /// One of two locks is refused.
     pub(crate) fn of_side(
         alloc: Global,
@@ -342,6 +365,7 @@ fn push_cause(
         Cause::Advisories(number, error) => {
             push_advisories_refusal(alloc, out, form, (*number, error), diagnostic)
         }
+        Cause::Clash(clash) => push_clash_refusal(alloc, out, form, clash, diagnostic),
         Cause::Option(option) => push_option(alloc, out, form, *option, diagnostic),
     }
 }
@@ -443,4 +467,22 @@ fn push_option(
     push_next_field(out, text)?;
     out.push(b'\n')?;
     Ok(())
+}
+
+/// Pushes two files of one name that differ: their line, or the document of the line's words and
+/// the diagnostic.
+fn push_clash_refusal(
+    alloc: Global,
+    out: &mut Vec<u8>,
+    form: Form,
+    clash: &Clash<'_>,
+    diagnostic: Option<&Diagnostic>,
+) -> Result<(), AllocError>
+    ensures { OnOk result (out.new.items
+        ≡ out.old.items ++ clash_printed form (option_copied diagnostic.entry) clash.now) }
+{
+    match form {
+        Form::Lines => push_clash(out, clash),
+        Form::Json => push_clash_json(alloc, out, clash, diagnostic),
+    }
 }

@@ -1,14 +1,12 @@
-//! What `files`, `audit`, `marker`, `environment` and the questions on a text print.
+//! What `audit`, `marker`, `environment` and the questions on a text print.
 
 ghost use Rattle.std.specs.Prelude.{◌≡◌, ◌++◌, OnOk, Some, None, string_bytes};
 ghost use Rattle.pylock_command.specs.declared.form.Form.TheVariants.{Json};
-ghost use Rattle.pylock_command.specs.declared.task.FilesOutput.TheVariants.{Shown};
 ghost use Rattle.pylock_program.specs.Inner.Answer.{PushesOr};
 ghost use Rattle.pylock_program.specs.Inner.Machine.{machine_read};
-ghost use Rattle.pylock_program.specs.Program.{Opens, OpensMachine, RepliesTelling};
+ghost use Rattle.pylock_program.specs.Program.{OpensMachine, RepliesTelling};
 ghost use Rattle.pylock_program.specs.Refusal.{GivesOr, PrintsTelling, refusal_report};
-ghost use Rattle.pylock_program.specs.Reply.{audit_report, entries_report, files_form};
-ghost use Rattle.pylock_program.specs.Reply.{files_report, files_shown, marker_answer};
+ghost use Rattle.pylock_program.specs.Reply.{audit_report, marker_answer};
 ghost use Rattle.pylock_program.specs.Reply.{marker_answer_in, marker_report, reply_of};
 ghost use Rattle.pylock_program.specs.Reply.{target_answer, target_report, text_report};
 ghost use Rattle.pylock_program.specs.Reply.{value_answer};
@@ -20,9 +18,8 @@ ghost use Rattle.pylock_run.specs.declared.report.opening.OpenError.TheVariants 
 mod texts;
 
 use crate::diagnostics::expected::{tell_marker, tell_text};
-use crate::export::write_files_export;
 use crate::failure::{Failure, program_end};
-use crate::file::{FileBytes, MachineInput, read_bytes, read_machine};
+use crate::file::{MachineInput, read_machine};
 use crate::host::{Host, Outputs};
 use crate::lines::list_status;
 use crate::opening::read_environment;
@@ -31,133 +28,22 @@ use crate::reply::texts::{
     push_fault, push_match, push_name, push_requirement, push_sdist, push_truth, push_version,
     push_wheel, push_word_refused,
 };
-use crate::text::files::push_entries;
 use pylock_audit::read_audited;
-use pylock_command::{FilesOutput, Form, Machine, TargetWords, TextQuestion};
-use pylock_core::{Entry, EnvError, FaultCode, Lock, LockError};
-use pylock_documents::{environment_text, files_document, push_document};
+use pylock_command::{Form, Machine, TargetWords, TextQuestion};
+use pylock_core::{EnvError, FaultCode, LockError};
+use pylock_documents::environment_text;
 use pylock_run::{Files, OpenError, RunFault, Sink, Source, print};
 use pymark_core::{Environment, EvalFault, Marker, MarkerError};
 use pywheel_core::{Target, TargetError};
 use std::alloc::{AllocError, Global};
-use std::mem;
 
 /// The status where a text is refused.
 const REFUSED_TEXT: u8 = 1;
 
-// ---- every source of a lock
-
-/// Answers `files` on the lock of a file.
-pub(crate) fn list_files<F: Files, R: Source, W: Sink, N: Sink>(
-    alloc: Global,
-    lock: &str,
-    output: FilesOutput<'_>,
-    host: &mut Host<F, R, W, N>,
-) -> Result<u8, Failure>
-    ensures { Opens (F.read_gives host.old.files) lock.now
-        (λ bytes. RepliesTelling (λ diagnostic. files_report output.entry diagnostic bytes))
-        (R.value host.old.reader) (R.value host.new.reader)
-        (W.value host.old.outputs.writer) (W.value host.new.outputs.writer) result }
-{
-    let file = read_bytes(alloc, host, lock)?;
-    program_end(write_files(alloc, output, &file, &mut host.outputs))
-}
-
-#[tactic(auto, using(crate::proofs::OpeningLemmas::refused))]
-fn write_files<W: Sink, N: Sink>(
-    alloc: Global,
-    output: FilesOutput<'_>,
-    file: &FileBytes<'_>,
-    outputs: &mut Outputs<W, N>,
-) -> Result<u8, RunFault>
-    ensures { PrintsTelling
-        (λ diagnostic. files_report output.entry diagnostic file.now.bytes.items)
-        (W.value outputs.old.writer) (W.value outputs.new.writer) result }
-{
-    match Lock::read(alloc, &file.bytes) {
-        Ok(lock) => {
-            let end = write_entries(alloc, output, lock.entries(), outputs);
-            if outputs.ends_process {
-                mem::forget(lock);
-            }
-            end
-        }
-        Err(LockError::Memory) => Err(RunFault::Memory),
-        Err(error) => {
-            let refusal = Refusal::of_lock(alloc, error, file);
-            write_refusal(alloc, files_form(output), refusal, outputs)
-        }
-    }
-}
-
-/// The form in which a refusal is printed; none where the sources would be for another tool.
-pub(crate) fn files_form(output: FilesOutput<'_>) -> Option<Form>
-    ensures { result ≡ files_form output.entry }
-{
-    match output {
-        FilesOutput::Shown(form) => Some(form),
-        FilesOutput::Tool(_, _) => None,
-    }
-}
-
-/// Writes every source of the entries.
-fn write_entries<W: Sink, N: Sink>(
-    alloc: Global,
-    output: FilesOutput<'_>,
-    entries: &[Entry],
-    outputs: &mut Outputs<W, N>,
-) -> Result<u8, RunFault>
-    ensures { Prints (entries_report output.entry entries.now)
-        (W.value outputs.old.writer) (W.value outputs.new.writer) result }
-{
-    match output {
-        FilesOutput::Shown(form) => {
-            let mut out = Vec::new(alloc);
-            push_sources(alloc, &mut out, form, entries)?;
-            print(&out, 0, &mut outputs.writer)
-        }
-        FilesOutput::Tool(format, base) => {
-            write_files_export(alloc, format, base, entries, outputs)
-        }
-    }
-}
-
-fn push_sources(
-    alloc: Global,
-    out: &mut Vec<u8>,
-    form: Form,
-    entries: &[Entry],
-) -> Result<(), AllocError>
-    ensures { OnOk result (out.new.items ≡ out.old.items ++ files_shown form entries.now) }
-{
-    match form {
-        Form::Lines => push_entries(alloc, out, entries),
-        Form::Json => push_document(alloc, out, files_document(alloc, entries)?),
-    }
-}
-
-/// Pushes what `files` prints of a lock, which is given by the bytes of its TOML text (PEP 751),
-/// and answers the status. It takes memory for the lock and for what it pushes.
-pub fn push_files(
-    alloc: Global,
-    out: &mut Vec<u8>,
-    form: Form,
-    lock: &[u8],
-) -> Result<u8, AllocError>
-    ensures { Pushes out.old.items out.new.items (files_report (Shown form) None lock.now) result }
-{
-    match Lock::read(alloc, lock) {
-        Ok(lock) => {
-            push_sources(alloc, out, form, lock.entries())?;
-            Ok(0)
-        }
-        Err(LockError::Memory) => Err(AllocError),
-        Err(error) => push_refused_lock(alloc, out, form, error),
-    }
-}
+// ---- a refused lock
 
 /// Pushes the refusal of a lock, and answers its status.
-fn push_refused_lock(
+pub(crate) fn push_refused_lock(
     alloc: Global,
     out: &mut Vec<u8>,
     form: Form,

@@ -112,7 +112,7 @@ fn write_output<W: Sink, N: Sink>(
     let end = write_left(alloc, question.output, lock, session, &answer, outputs);
     if end.is_ok() {
         tell_answer(alloc, &mut outputs.diagnostics, question, session, &answer);
-        tell_left_out(alloc, &mut outputs.diagnostics, left_out);
+        tell_left_out(alloc, &mut outputs.diagnostics, "plan", left_out);
     }
     end
 }

@@ -4,6 +4,7 @@ use Rattle.std.specs.Prelude.{Option, Some, if◌then◌else◌, nat_lt, option_
 use Rattle.std.specs.Option.{option_copied, option_map_or}
 use Rattle.serde_json.specs.Data.{Data}
 use Rattle.pylock_json.specs.Json.{Row, list_of, numbered, object_of, there, truth}
+use Rattle.pylock_shown.specs.Visible.{visible}
 use Rattle.pylock_sarif.specs.declared.rule.Rule.{Rule}
 use Rattle.pylock_sarif.specs.declared.run.Run.{Run}
 use Rattle.pylock_sarif.specs.declared.run.SarifResult.{SarifResult}
@@ -62,11 +63,13 @@ behind_colon text = codes ":" ++ option_map_or (λ bytes. bytes) text []
 abbrev pub between : List ℕ → Option (List ℕ) → List ℕ → List ℕ
 between before text behind = option_map_or (λ bytes. before ++ bytes ++ behind) text []
 
--- what a person is told: what the rule finds, and behind it the name and the detail
+-- what a person is told: what the rule finds, and behind it the name and the detail, in which
+-- control characters stand as their numbers
 abbrev pub message : SarifResult → List ℕ
 message found = found.description.now
     ++ between (codes " ") (option_copied found.name) []
-    ++ between (codes " (") (option_map string_bytes found.detail) (codes ")")
+    ++ between (codes " (") (option_map (λ text. visible (string_bytes text)) found.detail)
+    (codes ")")
 
 -- what stays the same where the text of the lock moves: the rule, the name and the detail
 abbrev pub fingerprint : SarifResult → List ℕ

@@ -1,6 +1,7 @@
 //! A run as a SARIF document (SARIF 2.1.0).
 
-ghost use Rattle.std.specs.Prelude.{◌≡◌, ◌++◌, IfOk, OnOk, length, map, string_bytes, take};
+ghost use Rattle.std.specs.Prelude.{◌≡◌, ◌++◌, IfOk, OnOk, codes, length, map, option_map};
+ghost use Rattle.std.specs.Prelude.{string_bytes, take};
 ghost use Rattle.std.specs.Option.{option_copied};
 ghost use Rattle.serde_json.specs.View.{members_view, view as data_of};
 ghost use Rattle.pylock_json.specs.Json.{members_of};
@@ -13,11 +14,13 @@ ghost use Rattle.pylock_sarif.specs.Document.{run_rows, sarif_rows, text_data};
 ghost use Rattle.pylock_sarif.specs.Document.{tool_data};
 ghost use Rattle.serde_json.specs.Data.{object};
 ghost use Rattle.pylock_sarif.specs.Rule.{level_word};
+ghost use Rattle.pylock_shown.specs.Visible.{visible, visible_character};
 
 use crate::rule::{Level, Rule};
 use crate::run::{Run, SarifResult, TextPlace};
 use crate::uri::uri_of;
 use pylock_json::{Json, List, Object};
+use pylock_shown::is_control;
 use std::alloc::{AllocError, Global};
 
 /// The most results of a run that GitHub takes.
@@ -199,8 +202,42 @@ fn message_of(alloc: Global, found: &SarifResult<'_>) -> Result<String, AllocErr
 {
     let mut text = String::from_str(alloc, found.description)?;
     push_between(&mut text, " ", found.name, "")?;
-    push_between(&mut text, " (", found.detail.as_deref(), ")")?;
+    push_detail(alloc, &mut text, found.detail.as_deref())?;
     Ok(text)
+}
+
+/// Adds the detail between parentheses, where it is there.
+fn push_detail(alloc: Global, out: &mut String, detail: Option<&str>) -> Result<(), AllocError>
+    ensures { OnOk result (string_bytes out.new ≡ string_bytes out.old
+        ++ between (codes " (") (option_map visible (option_copied detail.entry)) (codes ")")) }
+{
+    let Some(detail) = detail else {
+        return Ok(());
+    };
+    out.push_str(" (")?;
+    push_visible(alloc, out, detail)?;
+    out.push_str(")")
+}
+
+/// Adds a text, in which each control character stands as `\u{HEX}`.
+fn push_visible(alloc: Global, out: &mut String, text: &str) -> Result<(), AllocError>
+    ensures { OnOk result (string_bytes out.new ≡ string_bytes out.old ++ visible text.now) }
+{
+    for character in text.chars() {
+        push_character(alloc, out, character)?;
+    }
+    Ok(())
+}
+
+fn push_character(alloc: Global, out: &mut String, character: char) -> Result<(), AllocError>
+    ensures { OnOk result (string_bytes out.new
+        ≡ string_bytes out.old ++ visible_character character) }
+{
+    if !is_control(character) {
+        return out.push(character);
+    }
+    let number = format!(in alloc; "\\u{{{:x}}}", u32::from(character))?;
+    out.push_str(number.as_str())
 }
 
 /// Adds a text, where it is there, between these two.

@@ -1,3 +1,4 @@
 pub mod Place
 pub mod Places
+pub mod Path
 pub mod Inner

@@ -10,6 +10,7 @@
 //! ```
 #![tactic(auto)]
 
+mod path;
 mod place;
 mod places;
 mod reading;
@@ -17,6 +18,7 @@ mod search;
 mod start;
 mod step;
 
+pub use path::steps_of;
 pub use place::Place;
 pub use places::Places;
 pub use step::Step;

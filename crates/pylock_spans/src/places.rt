@@ -54,10 +54,18 @@ impl<'t> Places<'t> {
             Err(error) if error.is_memory() => return Err(AllocError),
             Err(_) => return Ok(None),
         }
+        Ok(Some(Places::of_toml(alloc, text)?))
+    }
+
+    /// The places of a text that was read as TOML before, which isn't read as that again. Of
+    /// another text it has the places up to where that is none.
+    pub fn of_toml(alloc: Global, text: &'t str) -> Result<Places<'t>, AllocError>
+        ensures { IfOk result (λ places. places.text ≡ skip_bom text.now) }
+    {
         let text = without_mark(text);
         let starts = entry_starts(alloc, text)?;
         let entries = placed(alloc, text, starts.as_slice())?;
-        Ok(Some(Places { text, entries }))
+        Ok(Places { text, entries })
     }
 
     /// Where the entry of this number begins, from 1: the header `[[packages]]`, or the element of

@@ -8,7 +8,7 @@ ghost use Rattle.pyver_algebra.specs.FirstTwo.{first_two};
 ghost use Rattle.pyver_algebra.specs.Limits.{Keeps};
 
 use crate::bounds::Bounds;
-use crate::step::{prefix_step, step_of};
+use crate::step::{first_prefix_step, step_of};
 use pyver_core::Version;
 use std::alloc::{AllocError, Global};
 
@@ -104,10 +104,13 @@ impl Bounds {
         ensures { OnOk result ((v : Parts) → v.epoch ≡ 0 → Keeps self.old v
             → matches_prefix epoch release.now (first_two v) ≡ wanted → Keeps self.new v) }
     {
-        if epoch != 0 || release.len() > 2 {
+        if epoch != 0 {
             return Ok(());
         }
-        self.add_prefix(alloc, epoch, release, wanted)
+        match first_prefix_step(alloc, release)? {
+            Some(step) => self.keep_between(step.begin, step.end, wanted),
+            None => Ok(()),
+        }
     }
 
     /// `~=V`
@@ -138,13 +141,12 @@ impl Bounds {
             → is_compatible operand.now (first_two v) ≡ false → Keeps self.new v) }
     {
         let release = operand.release();
-        let prefix = &release[..release.len() - 1];
-        if operand.epoch() != 0 || prefix.len() > 2 {
+        if operand.epoch() != 0 {
             return Ok(());
         }
         match (
             step_of(alloc, operand)?,
-            prefix_step(alloc, operand.epoch(), prefix)?,
+            first_prefix_step(alloc, &release[..release.len() - 1])?,
         ) {
             (Some(step), Some(outer)) => self.keep_outside(step.begin, outer),
             _ => Ok(()),

@@ -21,6 +21,7 @@ impl Answers for Cases {
             "rules" => sarif::tell_rules(alloc),
             "sarif" => sarif::answer_case(alloc, case),
             "settings" => settings::answer_case(alloc, case),
+            "steps" => places::tell_steps(alloc, case),
             _ => Err(anyhow::anyhow!("no kind of case")),
         }
     }

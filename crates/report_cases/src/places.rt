@@ -1,7 +1,7 @@
 //! Where entries and keys stand.
 
 use case_files::{text, texts};
-use pylock_spans::{Place, Places, Step};
+use pylock_spans::{Place, Places, Step, steps_of};
 use std::alloc::Global;
 use toml::Table;
 
@@ -17,6 +17,23 @@ pub(crate) fn answer_case(alloc: Global, case: &Table) -> anyhow::Result<String>
     for asked in texts(alloc, case, "asked")? {
         let place = find(alloc, &places, asked)?;
         push_place(alloc, &mut answer, asked, place)?;
+    }
+    Ok(answer)
+}
+
+/// The steps of each of the paths `paths`, as findings write them.
+pub(crate) fn tell_steps(alloc: Global, case: &Table) -> anyhow::Result<String> {
+    let mut answer = String::new(alloc);
+    for path in texts(alloc, case, "paths")? {
+        answer.push_str(path)?;
+        for step in steps_of(alloc, path)?.iter() {
+            let told = match step {
+                Step::Key(key) => format!(in alloc; ", key `{key}`")?,
+                Step::Element(position) => format!(in alloc; ", element {position}")?,
+            };
+            answer.push_str(told.as_str())?;
+        }
+        answer.push_str("\n")?;
     }
     Ok(answer)
 }

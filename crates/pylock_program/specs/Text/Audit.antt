@@ -2,7 +2,6 @@
 use Rattle.std.specs.Prelude.{ℕ, ◌++◌, List, [], ◌∷◌, codes, decimal, if◌then◌else◌, length}
 use Rattle.std.specs.Prelude.{nat_lt}
 use Rattle.std.specs.List.{flat_map}
-use Rattle.pylock_audit.specs.Document.{findings_rows}
 use Rattle.pylock_audit.specs.Finding.{LockFindingValue}
 use Rattle.pylock_audit.specs.Words.{finding_word}
 use Rattle.pylock_json.specs.Json.{Row, numbered}
@@ -31,6 +30,3 @@ ignored_rows count = if nat_lt 0 count then (codes "ignored", numbered count) �
 abbrev pub audit_text : ℕ → List LockFindingValue → List ℕ
 audit_text ignored found = (codes "findings " ++ decimal (length found) ++ ignored_text ignored
     ++ codes "\n") ++ flat_map finding_line found
-
-abbrev pub audit_rows : ℕ → List LockFindingValue → List Row
-audit_rows ignored found = findings_rows found ++ ignored_rows ignored

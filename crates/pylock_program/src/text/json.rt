@@ -3,6 +3,8 @@
 ghost use Rattle.std.specs.Prelude.{◌≡◌, ◌++◌, IfOk, OnOk, decimal, map, option_map};
 ghost use Rattle.std.specs.Prelude.{string_bytes};
 ghost use Rattle.std.specs.Option.{option_copied};
+ghost use Rattle.pylock_command.specs.declared.form.Form.TheVariants as form;
+ghost use Rattle.pylock_program.specs.Refusal.{clash_printed};
 ghost use Rattle.pylock_program.specs.Text.Json.{fault_json, line_refusal_json, option_json};
 ghost use Rattle.pylock_program.specs.Text.Json.{refusal_json, words_json};
 ghost use Rattle.pylock_run.specs.Text.Refusal.{refusal_words};
@@ -13,6 +15,7 @@ use pylock_documents::{push_document, refused_document, refused_line_document};
 use pylock_json::Object;
 use pylock_messages::Diagnostic;
 use pylock_run::{LineRefusal, OpenError, RefusalWords, environment_words, line_word, lock_words};
+use pylock_union::{Clash, clash_words};
 use std::alloc::{AllocError, Global};
 
 /// Pushes the document of a refusal, of these words and the diagnostic.
@@ -148,4 +151,30 @@ pub(crate) fn push_option_json(
         (word, Some(text)) => push_refused(alloc, out, &[word, text], diagnostic),
         (word, None) => push_refused(alloc, out, &[word], diagnostic),
     }
+}
+
+/// Pushes the document of two files of one name that differ.
+pub(crate) fn push_clash_json(
+    alloc: Global,
+    out: &mut Vec<u8>,
+    clash: &Clash<'_>,
+    diagnostic: Option<&Diagnostic>,
+) -> Result<(), AllocError>
+    ensures { OnOk result (out.new.items
+        ≡ out.old.items ++ clash_printed form.Json (option_copied diagnostic.entry) clash.now) }
+{
+    let texts = clash_words(alloc, clash)?;
+    let words = lent_words(alloc, &texts)?;
+    push_refused(alloc, out, &words, diagnostic)
+}
+
+fn lent_words(alloc: Global, texts: &[String]) -> Result<Vec<&str>, AllocError>
+    ensures { IfOk result (λ words. map (λ word. word.now) words.items
+        ≡ map string_bytes texts.now) }
+{
+    let mut words = Vec::with_capacity(alloc, texts.len())?;
+    for text in texts {
+        words.push(text.as_str())?;
+    }
+    Ok(words)
 }

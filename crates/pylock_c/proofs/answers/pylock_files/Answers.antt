@@ -1,7 +1,7 @@
 -- The form of what is printed is that of the flag.
 use Rattle.std.proofs.Common.{rules, ap, None}
 use Rattle.pylock_command.specs.declared.task.FilesOutput.TheVariants.{Shown}
-use Rattle.pylock_program.specs.Reply.{files_report}
+use Rattle.pylock_program.specs.Files.{files_report}
 use Rattle.pylock_c.specs.Answers.{reported}
 use Rattle.pylock_slots.proofs.AnswerLemmas.{told_as}
 use Rattle.pylock_c.proofs.answers.pylock_files.Goals as goal

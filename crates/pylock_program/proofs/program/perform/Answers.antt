@@ -29,3 +29,6 @@ returns-in-Check g c = rw c.in-Check.is c.check_project.ensures
 
 pub returns-in-Summary : goal.returns-in-Summary
 returns-in-Summary g c = rw c.in-Summary.is c.show_summary.ensures
+
+pub returns-in-CheckMatrix : goal.returns-in-CheckMatrix
+returns-in-CheckMatrix g c = rw c.in-CheckMatrix.is c.check_targets.ensures

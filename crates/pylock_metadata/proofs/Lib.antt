@@ -1,0 +1,5 @@
+pub mod DependencyLemmas
+pub mod DescribedLemmas
+pub mod MeetsLemmas
+pub mod NumberLemmas
+pub mod TextLemmas

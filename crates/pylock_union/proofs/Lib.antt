@@ -1,0 +1,4 @@
+pub mod ClaimLemmas
+pub mod FirstLemmas
+pub mod ListedLemmas
+pub mod TextLemmas
