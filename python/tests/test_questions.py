@@ -75,11 +75,13 @@ def lines_in(expected):
 
 @unittest.skipIf(READER is None, "there is no reader of TOML")
 class Rows(unittest.TestCase):
-    """The rows of tools/check/rows."""
+    """The rows of tools/check/rows, but those of several targets: a call of the module asks of one environment."""
 
     def compare(self, kind, ask):
         target = pylock.environment("3.12", "linux")
         for case in READER.loads(text_of("tools", "check", "rows", kind + ".toml"))[kind]:
+            if "--matrix" in case["words"]:
+                continue
             with self.subTest(case["name"]):
                 told = lines_of(lambda case=case: ask(lock_of(case["lock"]), target, case, options_of(case["words"])))
                 wanted = lines_in(case["expected"].lstrip("\n"))
