@@ -5,13 +5,10 @@
 //! `pylock_audit`'s. The text of a target's environment is JSON of another form: that of an
 //! environment file.
 //!
-//! The files of a lock, as lines or as a document, from `crates/pylock_program/src/reply.rt`:
+//! A plan, as a document, from `crates/pylock_program/src/show.rt`:
 //!
 //! ```rust
-//! match form {
-//!     Form::Lines => push_entries(alloc, out, entries),
-//!     Form::Json => push_document(alloc, out, files_document(alloc, entries)?),
-//! }
+//! push_document(alloc, out, plan_document(alloc, session, answer)?)
 //! ```
 #![tactic(auto)]
 

@@ -1,13 +1,14 @@
 //! What a lock says besides what installation takes: of its files their sizes and when they were
 //! uploaded, and of its entries on which others they depend (PEP 751).
 //!
-//! The sizes of the sdists of a lock, in the lock's order:
+//! A lock with what it says besides, from `crates/pylock_program/src/files.rt`:
 //!
 //! ```rust
-//! let (_lock, metadata) = read_with_metadata(alloc, bytes)?;
-//! for entry in &metadata.entries {
-//!     sizes.push(entry.sdist.size)?;
-//! }
+//! let (lock, metadata) = read_with_metadata(alloc, bytes)?;
+//! return Ok(ReadLock {
+//!     lock,
+//!     metadata: Some(metadata),
+//! });
 //! ```
 #![tactic(auto)]
 

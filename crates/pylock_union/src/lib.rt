@@ -1,13 +1,12 @@
 //! The files of several locks, each once, for whoever mirrors them.
 //!
+//! From `crates/pylock_program/src/files.rt`:
+//!
 //! ```rust
-//! for (place, lock) in locks.iter().enumerate() {
-//!     push_sources(alloc, &mut list, place as u64 + 1, lock.entries(), None)?;
-//! }
-//! match union_of(alloc, list.as_slice()) {
-//!     Ok(files) => push_lines(out, files.as_slice(), true),
-//!     Err(UnionError::Differ(clash)) => push_clash(out, &clash),
-//!     Err(UnionError::Memory) => Err(AllocError),
+//! match union_of(alloc, &list) {
+//!     Ok(list) => Ok(list),
+//!     Err(UnionError::Memory) => Err(Refusal::of_memory()),
+//!     Err(UnionError::Differ(clash)) => Err(Refusal::of_clash(alloc, clash)),
 //! }
 //! ```
 #![tactic(auto)]
