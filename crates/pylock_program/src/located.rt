@@ -35,7 +35,7 @@ pub(crate) fn with_places<'a>(
 ) -> Result<Vec<Located<'a>>, AllocError>
     ensures { IfOk result (λ located. AreLocated bytes.now found.now located.items) }
 {
-    let read = read_places(alloc, bytes)?;
+    let read = read_places(alloc, bytes, found)?;
     let places = read.as_ref();
     let mut located = Vec::with_capacity(alloc, found.len())?;
     let mut number = 0;
@@ -55,11 +55,19 @@ pub(crate) fn with_places<'a>(
     Ok(located)
 }
 
-/// The places of a lock that was read; none where the bytes are no text.
-fn read_places(alloc: Global, bytes: &[u8]) -> Result<Option<Places<'_>>, AllocError>
-    ensures { IfOk result (λ found. IfSome found (λ places.
+/// The places of a lock that was read; none where the bytes are no text, or where nothing is found,
+/// so that a lock without findings isn't read again.
+fn read_places<'a>(
+    alloc: Global,
+    bytes: &'a [u8],
+    found: &[LockFinding],
+) -> Result<Option<Places<'a>>, AllocError>
+    ensures { IfOk result (λ read. IfSome read (λ places.
         places.text ≡ skip_bom bytes.now)) }
 {
+    if found.is_empty() {
+        return Ok(None);
+    }
     match str::from_utf8(bytes) {
         Ok(text) => Ok(Some(Places::of_toml(alloc, text)?)),
         Err(_) => Ok(None),
