@@ -39,6 +39,12 @@ export interface Source {
   subdirectory?: string;
 }
 
+/** A source that a lock names, with what the lock says of its file. */
+export interface File extends Source {
+  size?: number;
+  "upload-time"?: string;
+}
+
 export interface Fault {
   id: number;
   name?: string;
@@ -61,12 +67,12 @@ export interface ExplainDocument {
 
 export interface FilesDocument {
   pylock: 1;
-  files: Source[];
+  files: File[];
 }
 
 export interface AuditDocument {
   pylock: 1;
-  findings: { id: number; name?: string; finding: string; detail?: string }[];
+  findings: { id: number; name?: string; finding: string; detail?: string; line?: number; column?: number }[];
   /** How many were left out, if any was. */
   ignored?: number;
 }
@@ -139,7 +145,7 @@ export class PylockError extends Error {
   readonly word: string;
   /** All fields of the refusal. */
   readonly fields: readonly string[];
-  /** Where the text isn't TOML or JSON: each counts from 1. */
+  /** Where the text isn't TOML or JSON, or a part of a lock is wrong: each counts from 1. */
   readonly line?: number;
   readonly column?: number;
   readonly status?: number;

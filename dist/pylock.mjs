@@ -40,7 +40,7 @@ export class PylockError extends Error {
     this.word = details.word;
     // all its fields, as docs/FORMATS.md has them
     this.fields = details.fields ?? [];
-    // where the text isn't TOML or JSON; each counts from 1
+    // where the text isn't TOML or JSON, and where a part of a lock is wrong; each counts from 1
     this.line = details.line;
     this.column = details.column;
     this.status = details.status;
